@@ -1,0 +1,4 @@
+pub mod Judging
+pub mod Runs
+pub mod Soundness
+pub mod Calls

@@ -1,0 +1,4 @@
+pub mod Refusals
+pub mod Sequence
+pub mod Column
+pub mod Calls
