@@ -81,26 +81,26 @@ fn room(start: i64) -> u64
 }
 
 // A run that is plainly right: its end above the one before, its start with room. (The step is taken for its range; it is not read.)
-fn roomy(last: u64, end: u64, start: i64, step: i16) -> bool
-    ensures { λ r. ⌜ (r ≡ true → SureRun last end start step) ⌝ }
+fn roomy(low: u64, end: u64, start: i64, step: i16) -> bool
+    ensures { λ r. ⌜ (r ≡ true → SureRun low end start step) ⌝ }
 {
-    if end <= last {
+    if end <= low {
         return false;
     }
     281474976710656 <= room(start)
 }
 
 // The same, with the exact test where there is no room.
-fn sure(last: u64, end: u64, start: i64, step: i16) -> bool
-    ensures { λ r. ⌜ (r ≡ true → SureRun last end start step) ⌝ }
+fn sure(low: u64, end: u64, start: i64, step: i16) -> bool
+    ensures { λ r. ⌜ (r ≡ true → SureRun low end start step) ⌝ }
 {
-    if end <= last {
+    if end <= low {
         return false;
     }
     if 281474976710656 <= room(start) {
         return true;
     }
-    let k = end - last - 1;
+    let k = end - low - 1;
     if 4294967296 <= k {
         return false;
     }

@@ -73,12 +73,20 @@ pub or-true : (a : Bool) → (a || true) ≡ true
 or-true true = refl
 or-true false = refl
 
+pub or-false : (a : Bool) → (a || false) ≡ a
+or-false true = refl
+or-false false = refl
+
 pub not-yes : (a : Bool) → a ≡ false → not a ≡ true
 not-yes a h = rw h
 
 pub not-no : (a : Bool) → not a ≡ true → a ≡ false
 not-no true h = sym h
 not-no false h = refl
+
+pub not-not : (a : Bool) → not (not a) ≡ a
+not-not true = refl
+not-not false = refl
 
 -- ---- lists
 
@@ -88,6 +96,9 @@ In x [] = ⊥
 In x (y ∷ ys) = (x ≡ y) ⊎ In x ys
 
 module _ {A : Type 0} where
+  pub same-after : (x : A) {xs ys : List A} → xs ≡ ys → (x ∷ xs) ≡ (x ∷ ys)
+  same-after x e = ap (λ zs. x ∷ zs) e
+
   pub every-at : (p : A → Bool) (xs : List A) (x : A) → every p xs ≡ true → In x xs → p x ≡ true
   unfolding every
   every-at p [] x h i = absurd i
@@ -104,3 +115,17 @@ module _ {A : Type 0} where
   none-at p [] x h i = absurd i
   none-at p (y ∷ ys) x h (inl e) = ap p e ∙ or-left (p y) (someOf p ys) h
   none-at p (y ∷ ys) x h (inr i) = none-at p ys x (or-right (p y) (someOf p ys) h) i
+
+  pub at-some : (p : A → Bool) (xs : List A) (x : A) → p x ≡ true → In x xs → someOf p xs ≡ true
+  at-some p xs x h i = either (someOf p xs) (λ t. t) (λ t. clash h (none-at p xs x t i))
+
+  -- one at which it holds, and one at which it fails
+  pub some-at : (p : A → Bool) (xs : List A) → someOf p xs ≡ true → (x : A) × In x xs × (p x ≡ true)
+  unfolding someOf
+  some-at p [] h = absurd (false≢true h)
+  some-at p (y ∷ ys) h = either (p y) (λ t. (y, inl refl, t)) (λ t. let w : (x : A) × In x ys × (p x ≡ true) = some-at p ys (rw t at h) in (w .0, inr (w .1), w .2))
+
+  pub fails-at : (p : A → Bool) (xs : List A) → every p xs ≡ false → (x : A) × In x xs × (p x ≡ false)
+  unfolding every
+  fails-at p [] h = absurd (false≢true (sym h))
+  fails-at p (y ∷ ys) h = either (p y) (λ t. let w : (x : A) × In x ys × (p x ≡ false) = fails-at p ys (rw t at h) in (w .0, inr (w .1), w .2)) (λ t. (y, inl refl, t))

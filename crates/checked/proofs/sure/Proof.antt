@@ -22,7 +22,7 @@ returns-2 : tie.Need-returns-2
 returns-2 c = λ _.
     let a = c .before .before .before in (
       c .before .before .if1 .left,
-      λ l. roomy-in (a .args .start) (a .args .step) (c .before .room .result) (a .args .end - a .args .last - 1) (a .fits .start .sfits) (a .fits .step .sfits)
+      λ l. roomy-in (a .args .start) (a .args .step) (c .before .room .result) (a .args .end - a .args .low - 1) (a .fits .start .sfits) (a .fits .step .sfits)
           (c .before .room .ensures ∙ ap (λ (z : ℤ). (key half64 z + 140737488355328) % 18446744073709551616) (toZ-ofZ (a .fits .start)))
           (c .if2 .taken) l,
     )

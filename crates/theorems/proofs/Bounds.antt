@@ -1,0 +1,268 @@
+-- What a folded bound says: `lower-all`, `upper-all` and `upper-untied`. Assumes nothing.
+use mathlib.Core.Path.{_≡_, refl, sym, ap, _∙_}
+use mathlib.Core.Bool.{Bool, true, false, cond, not, _&&_, _||_, false≢true}
+use mathlib.Core.List.{List, [], _∷_, _++_}
+use mathlib.Core.Logic.{_⊎_, inl, inr}
+use lib.IntN.{ℤ}
+use lib.Signed.{ltZ}
+use Rattle.ranges.specs.Ranges.{every, someOf}
+use Rattle.ranges.proofs.Bools.{either, clash, same, and-left, and-right, and-both, and-false, and-assoc, and-true, or-left, or-right, or-false, not-yes, not-no, In, every-at, at-every, at-some, some-at, fails-at}
+use Rattle.ranges.proofs.Order.{lt-self, lt-same, lt-not, lt-le, le-lt, lt-trans}
+use Rattle.loftsplice.specs.declared.filter_interval.Bound.{Bound}
+use Rattle.loftsplice.specs.declared.filter_interval.Limit.the-variants.{To}
+use Rattle.loftsplice.specs.Filter.{isExclusive, less, greater, lesser, fold, folded, greatest, least, meetsLower, meetsUpper, within, listed}
+use Rattle.theorems.specs.Promise.{equal, bothWays, tied}
+use Rattle.theorems.specs.Runs.{above}
+
+-- ---- one bound
+
+module _ (v : ℤ) (b : Bound) where
+  lower-ge : meetsLower v b ≡ true → ltZ v (b .value) ≡ false
+  unfolding meetsLower
+  lower-ge h = kinds (isExclusive (b .boundary)) h
+    where
+      kinds : (t : Bool) → cond t (ltZ (b .value) v) (not (ltZ v (b .value))) ≡ true → ltZ v (b .value) ≡ false
+      kinds true h = lt-not (b .value) v h
+      kinds false h = not-no (ltZ v (b .value)) h
+
+  lt-lower : ltZ (b .value) v ≡ true → meetsLower v b ≡ true
+  unfolding meetsLower
+  lt-lower l = kinds (isExclusive (b .boundary))
+    where
+      kinds : (t : Bool) → cond t (ltZ (b .value) v) (not (ltZ v (b .value))) ≡ true
+      kinds true = l
+      kinds false = not-yes (ltZ v (b .value)) (lt-not (b .value) v l)
+
+  upper-le : meetsUpper v b ≡ true → ltZ (b .value) v ≡ false
+  unfolding meetsUpper
+  upper-le h = kinds (isExclusive (b .boundary)) h
+    where
+      kinds : (t : Bool) → cond t (ltZ v (b .value)) (not (ltZ (b .value) v)) ≡ true → ltZ (b .value) v ≡ false
+      kinds true h = lt-not v (b .value) h
+      kinds false h = not-no (ltZ (b .value) v) h
+
+  lt-upper : ltZ v (b .value) ≡ true → meetsUpper v b ≡ true
+  unfolding meetsUpper
+  lt-upper l = kinds (isExclusive (b .boundary))
+    where
+      kinds : (t : Bool) → cond t (ltZ v (b .value)) (not (ltZ (b .value) v)) ≡ true
+      kinds true = l
+      kinds false = not-yes (ltZ (b .value) v) (lt-not v (b .value) l)
+
+-- an element above one that meets a lower bound meets it; one below one that meets an upper bound meets it
+pub lower-up : (v w : ℤ) (b : Bound) → ltZ v w ≡ true → meetsLower v b ≡ true → meetsLower w b ≡ true
+lower-up v w b l h = lt-lower w b (le-lt (b .value) v w (lower-ge v b h) l)
+
+pub upper-down : (v w : ℤ) (b : Bound) → ltZ v w ≡ true → meetsUpper w b ≡ true → meetsUpper v b ≡ true
+upper-down v w b l h = lt-upper v b (lt-le v w (b .value) l (upper-le w b h))
+
+-- ---- the order of bounds: a is not after b
+
+abbrev NotAfter : Bound → Bound → Type 0
+NotAfter a b = (ltZ (a .value) (b .value) ≡ true) ⊎ ((a .value ≡ b .value) × (isExclusive (a .boundary) ≡ true → isExclusive (b .boundary) ≡ true))
+
+itself : (b : Bound) → NotAfter b b
+itself b = inr (refl, λ t. t)
+
+after-trans : (a b c : Bound) → NotAfter a b → NotAfter b c → NotAfter a c
+after-trans a b c (inl p) (inl q) = inl (lt-trans (a .value) (b .value) (c .value) p q)
+after-trans a b c (inl p) (inr q) = inl (ap (ltZ (a .value)) (sym (q .0)) ∙ p)
+after-trans a b c (inr p) (inl q) = inl (ap (λ x. ltZ x (c .value)) (p .0) ∙ q)
+after-trans a b c (inr p) (inr q) = inr (p .0 ∙ q .0, λ t. q .1 (p .1 t))
+
+is-less : (a b : Bound) → less a b ≡ true → NotAfter a b
+unfolding less
+is-less a b h =
+    let over = not (ltZ (b .value) (a .value)) in
+    let kinds = not (isExclusive (a .boundary)) && isExclusive (b .boundary) in
+    either (ltZ (a .value) (b .value)) inl
+    (λ e. let g : (over && kinds) ≡ true = rw e at h in inr (
+      lt-same (a .value) (b .value) e (not-no (ltZ (b .value) (a .value)) (and-left over kinds g)),
+      λ _. and-right (not (isExclusive (a .boundary))) (isExclusive (b .boundary)) (and-right over kinds g),
+    ))
+
+not-less : (a b : Bound) → less b a ≡ false → NotAfter a b
+unfolding less
+not-less a b h =
+    let under = not (ltZ (a .value) (b .value)) in
+    let other = not (isExclusive (b .boundary)) && isExclusive (a .boundary) in
+    either (ltZ (a .value) (b .value)) inl
+    (λ e. let g : other ≡ false = rw e at (or-right (ltZ (b .value) (a .value)) (under && other) h) in inr (
+      lt-same (a .value) (b .value) e (or-left (ltZ (b .value) (a .value)) (under && other) h),
+      kinds (isExclusive (b .boundary)) (isExclusive (a .boundary)) g,
+    ))
+  where
+    kinds : (t s : Bool) → (not t && s) ≡ false → s ≡ true → t ≡ true
+    kinds true s g h = refl
+    kinds false s g h = clash h g
+
+-- ---- lower bounds
+
+lower-covers : (v : ℤ) (a b : Bound) → NotAfter a b → meetsLower v b ≡ true → meetsLower v a ≡ true
+unfolding meetsLower
+lower-covers v a b (inl l) h = lt-lower v a (lt-le (a .value) (b .value) v l (lower-ge v b h))
+lower-covers v a b (inr e) h = rw (e .0) (kinds (isExclusive (a .boundary)) (isExclusive (b .boundary)) (b .value) (e .1) h)
+  where
+    kinds : (s t : Bool) (x : ℤ) → (s ≡ true → t ≡ true) → cond t (ltZ x v) (not (ltZ v x)) ≡ true → cond s (ltZ x v) (not (ltZ v x)) ≡ true
+    kinds false false x f h = h
+    kinds false true x f h = not-yes (ltZ v x) (lt-not x v h)
+    kinds true false x f h = absurd (false≢true (f refl))
+    kinds true true x f h = h
+
+pub lower-two : (v : ℤ) (a b : Bound) → meetsLower v (greater a b) ≡ (meetsLower v a && meetsLower v b)
+lower-two v a b = either (less a b)
+    (λ e. rw e (same (meetsLower v b) (meetsLower v a && meetsLower v b)
+    (λ h. and-both (meetsLower v a) (meetsLower v b) (lower-covers v a b (is-less a b e) h) h) (and-false (meetsLower v a) (meetsLower v b))))
+    (λ e. rw e (same (meetsLower v a) (meetsLower v a && meetsLower v b)
+    (λ h. and-both (meetsLower v a) (meetsLower v b) h (lower-covers v b a (not-less b a e) h)) (λ h. rw h)))
+
+lower-fold : (v : ℤ) (b : Bound) (bs : List Bound) → meetsLower v (fold greater b bs) ≡ (meetsLower v b && every (meetsLower v) bs)
+unfolding fold every
+lower-fold v b [] = sym (and-true (meetsLower v b))
+lower-fold v b (x ∷ xs) =
+    lower-fold v (greater b x) xs ∙ ap (λ t. t && every (meetsLower v) xs) (lower-two v b x)
+    ∙ and-assoc (meetsLower v b) (meetsLower v x) (every (meetsLower v) xs)
+
+-- The folded lower bound is met exactly if every lower bound is.
+pub lower-all : (lows : List Bound) (v : ℤ) → above (greatest lows) v ≡ every (meetsLower v) lows
+unfolding every
+lower-all [] v = refl
+lower-all (b ∷ bs) v = lower-fold v b bs
+
+-- ---- upper bounds
+
+least-in : (b : Bound) (bs : List Bound) → In (fold lesser b bs) (b ∷ bs)
+unfolding fold
+least-in b [] = inl refl
+least-in b (x ∷ xs) = pick (less x b) (least-in (lesser b x) xs)
+  where
+    pick : (t : Bool) → In (fold lesser (lesser b x) xs) (cond t x b ∷ xs) → In (fold lesser (lesser b x) xs) (b ∷ (x ∷ xs))
+    pick true (inl e) = inr (inl e)
+    pick true (inr i) = inr (inr i)
+    pick false (inl e) = inl e
+    pick false (inr i) = inr (inr i)
+
+lesser-left : (a b : Bound) → NotAfter (lesser a b) a
+lesser-left a b = either (less b a) (λ e. rw e (is-less b a e)) (λ e. rw e (itself a))
+
+lesser-right : (a b : Bound) → NotAfter (lesser a b) b
+lesser-right a b = either (less b a) (λ e. rw e (itself b)) (λ e. rw e (not-less a b e))
+
+least-first : (b : Bound) (bs : List Bound) (x : Bound) → In x (b ∷ bs) → NotAfter (fold lesser b bs) x
+unfolding fold
+least-first b [] x (inl e) = rw e (itself b)
+least-first b [] x (inr i) = absurd i
+least-first b (y ∷ ys) x (inl e) = rw e (after-trans (fold lesser (lesser b y) ys) (lesser b y) b (least-first (lesser b y) ys (lesser b y) (inl refl)) (lesser-left b y))
+least-first b (y ∷ ys) x (inr (inl e)) = rw e (after-trans (fold lesser (lesser b y) ys) (lesser b y) y (least-first (lesser b y) ys (lesser b y) (inl refl)) (lesser-right b y))
+least-first b (y ∷ ys) x (inr (inr i)) = least-first (lesser b y) ys x (inr i)
+
+-- a bound that is met, and one not before it that is not met: both have the value v itself
+record Tie (v : ℤ) (a b : Bound) : Type 0 where
+  left : a .value ≡ v
+  right : b .value ≡ v
+  includes : isExclusive (a .boundary) ≡ false
+  excludes : isExclusive (b .boundary) ≡ true
+
+upper-tie : (v : ℤ) (a b : Bound) → NotAfter a b → meetsUpper v a ≡ true → meetsUpper v b ≡ false → Tie v a b
+unfolding meetsUpper
+upper-tie v a b (inl l) h g = clash (lt-upper v b (le-lt v (a .value) (b .value) (upper-le v a h) l)) g
+upper-tie v a b (inr e) h g =
+    let t = kinds (isExclusive (a .boundary)) (isExclusive (b .boundary)) (b .value) (e .1) (rw (e .0) at h) g in
+    record { left = e .0 ∙ t .0; right = t .0; includes = t .1; excludes = t .2 }
+  where
+    kinds : (s t : Bool) (x : ℤ) → (s ≡ true → t ≡ true) → cond s (ltZ v x) (not (ltZ x v)) ≡ true → cond t (ltZ v x) (not (ltZ x v)) ≡ false
+        → (x ≡ v) × (s ≡ false) × (t ≡ true)
+    kinds false false x f h g = clash h g
+    kinds false true x f h g = (lt-same x v (not-no (ltZ x v) h) g, refl, refl)
+    kinds true false x f h g = absurd (false≢true (f refl))
+    kinds true true x f h g = clash h g
+
+pub equal-is : (a b : ℤ) → equal a b ≡ true → a ≡ b
+equal-is a b h = lt-same a b (not-no (ltZ a b) (and-left (not (ltZ a b)) (not (ltZ b a)) h)) (not-no (ltZ b a) (and-right (not (ltZ a b)) (not (ltZ b a)) h))
+
+-- what the test of both ways is made of
+module _ (ups : List Bound) (v : ℤ) where
+  abbrev low : Bool
+  low = every (λ b. not (ltZ (b .value) v)) ups
+
+  abbrev as-inclusive : Bound → Bool
+  as-inclusive b = equal (b .value) v && not (isExclusive (b .boundary))
+
+  abbrev as-exclusive : Bound → Bool
+  as-exclusive b = equal (b .value) v && isExclusive (b .boundary)
+
+  both-made : (a b : Bound) → In a ups → In b ups → Tie v a b → ((x : Bound) → In x ups → NotAfter a x) → bothWays ups v ≡ true
+  unfolding bothWays
+  both-made a b ia ib t first =
+      and-both (low && someOf as-inclusive ups) (someOf as-exclusive ups)
+      (and-both low (someOf as-inclusive ups) (at-every (λ x. not (ltZ (x .value) v)) ups (λ x i. under x (first x i)))
+      (at-some as-inclusive ups a (rw (t .left, lt-self v, t .includes)) ia))
+      (at-some as-exclusive ups b (rw (t .right, lt-self v, t .excludes)) ib)
+    where
+      under : (x : Bound) → NotAfter a x → not (ltZ (x .value) v) ≡ true
+      under x (inl l) = not-yes (ltZ (x .value) v) (lt-not v (x .value) (rw (t .left) at l))
+      under x (inr e) = rw (sym (e .0) ∙ t .left, lt-self v)
+
+  -- the inclusive bound
+  both-has : bothWays ups v ≡ true → (a : Bound) × In a ups × (a .value ≡ v) × (isExclusive (a .boundary) ≡ false)
+  unfolding bothWays
+  both-has h =
+      let w = some-at as-inclusive ups (and-right low (someOf as-inclusive ups) (and-left (low && someOf as-inclusive ups) (someOf as-exclusive ups) h)) in (
+        w .0,
+        w .1,
+        equal-is (w .0 .value) v (and-left (equal (w .0 .value) v) (not (isExclusive (w .0 .boundary))) (w .2)),
+        not-no (isExclusive (w .0 .boundary)) (and-right (equal (w .0 .value) v) (not (isExclusive (w .0 .boundary))) (w .2)),
+      )
+
+  both-low : bothWays ups v ≡ true → (b : Bound) → In b ups → ltZ (b .value) v ≡ false
+  unfolding bothWays
+  both-low h b i = not-no (ltZ (b .value) v) (every-at (λ x. not (ltZ (x .value) v)) ups b
+      (and-left low (someOf as-inclusive ups) (and-left (low && someOf as-inclusive ups) (someOf as-exclusive ups) h)) i)
+
+  -- so the least of all, which is not after it, is met
+  both-met : (m : Bound) → In m ups → ((x : Bound) → In x ups → NotAfter m x) → bothWays ups v ≡ true → meetsUpper v m ≡ true
+  unfolding meetsUpper
+  both-met m i first h = let w = both-has h in at (w .0) (w .2) (w .3) (first (w .0) (w .1))
+    where
+      at : (a : Bound) → a .value ≡ v → isExclusive (a .boundary) ≡ false → NotAfter m a → meetsUpper v m ≡ true
+      at a e x (inl l) = clash (rw e at l) (both-low h m i)
+      at a e x (inr n) = either (isExclusive (m .boundary)) (λ t. clash (n .1 t) x) (λ t. rw (t, n .0 ∙ e, lt-self v))
+
+-- The folded upper bound is met exactly if every upper bound is, or v is the least upper value and given both ways.
+pub upper-all : (ups : List Bound) (v : ℤ) → within (least ups) v ≡ (every (meetsUpper v) ups || bothWays ups v)
+unfolding every
+upper-all [] v = refl
+upper-all (b ∷ bs) v = same (meetsUpper v m) (every (meetsUpper v) all || bothWays all v)
+    (λ h. either (every (meetsUpper v) all) (λ t. rw t)
+    (λ t. let w = fails-at (meetsUpper v) all t in
+    rw t (both-made all v m (w .0) (least-in b bs) (w .1) (upper-tie v m (w .0) (least-first b bs (w .0) (w .1)) h (w .2)) (least-first b bs))))
+    (λ h. either (every (meetsUpper v) all) (λ t. clash (every-at (meetsUpper v) all m t (least-in b bs)) h)
+    (λ t. either (bothWays all v) (λ u. clash (both-met all v m (least-in b bs) (least-first b bs) u) h) (λ u. rw (t, u))))
+  where
+    m : Bound
+    m = fold lesser b bs
+
+    all : List Bound
+    all = b ∷ bs
+
+not-both : (ups : List Bound) (v : ℤ) → tied ups ≡ false → bothWays ups v ≡ false
+unfolding tied
+not-both ups v h = either (bothWays ups v)
+    (λ t. let w = both-has ups v t in clash (at-some (λ b. bothWays ups (b .value)) ups (w .0) (rw (w .2) t) (w .1)) h)
+    (λ t. t)
+
+-- So it is met exactly if every upper bound is, where no least upper value is given both ways.
+pub upper-untied : (ups : List Bound) (v : ℤ) → tied ups ≡ false → within (least ups) v ≡ every (meetsUpper v) ups
+upper-untied ups v h = upper-all ups v ∙ ap (λ t. every (meetsUpper v) ups || t) (not-both ups v h) ∙ or-false (every (meetsUpper v) ups)
+
+-- ---- folded in two parts: the constants first, then with the variables
+
+fold-append : (f : Bound → Bound → Bound) (b : Bound) (xs ys : List Bound) → fold f b (xs ++ ys) ≡ fold f (fold f b xs) ys
+unfolding fold
+fold-append f b [] ys = refl
+fold-append f b (x ∷ xs) ys = fold-append f (f b x) xs ys
+
+pub folded-twice : (f : Bound → Bound → Bound) (xs ys : List Bound) → folded f (listed (folded f xs) ++ ys) ≡ folded f (xs ++ ys)
+unfolding fold
+folded-twice f [] ys = refl
+folded-twice f (x ∷ xs) ys = ap To (sym (fold-append f x xs ys))

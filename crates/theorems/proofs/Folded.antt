@@ -1,0 +1,46 @@
+-- A run of calls on a new filter, by its two folded bounds, and what these let through. Assumes nothing.
+use Prim.Native.Nat.{ℕ}
+use mathlib.Core.Path.{_≡_, sym, ap, _∙_, fun-ext}
+use mathlib.Core.Bool.{true, false, _&&_}
+use mathlib.Core.List.{List, [], _∷_}
+use lib.IntN.{ℤ}
+use Rattle.ranges.specs.Ranges.{every}
+use Rattle.meaning.specs.Sequence.{Sequence, Source, rises}
+use Rattle.loftsplice.specs.declared.filter_interval.Bound.{Bound}
+use Rattle.loftsplice.specs.declared.filter_interval.Limit.{Limit}
+use Rattle.loftsplice.specs.Scan.{fresh}
+use Rattle.loftsplice.specs.Filter.{fold, greater, lesser, greatest, least, meetsLower, inputs, variables, asRead, Call, stepFrom, newFilter}
+use Rattle.theorems.specs.Promise.{answersOf, answers, accepted, moves, allLower, allUpper, meetsAll, tied, counts, expectedFrom}
+use Rattle.theorems.specs.Runs.{letThrough}
+use Rattle.theorems.proofs.Bounds.{lower-all, upper-all, upper-untied, folded-twice}
+use Rattle.theorems.proofs.FilterRuns.{on, both, begins, steps, first-open, first-low}
+use Rattle.theorems.proofs.FilterCalls.{run-rises, opened-run}
+
+pub through : (ls us : List Bound) → both (greatest ls) (least us) ≡ letThrough ls us
+unfolding letThrough
+through ls us = fun-ext (λ (v : ℤ). rw (lower-all ls v, upper-all us v))
+
+-- without a tie: what meets every bound
+pub untied : (ls us : List Bound) → tied us ≡ false → letThrough ls us ≡ meetsAll ls us
+unfolding letThrough meetsAll
+untied ls us h = fun-ext (λ (v : ℤ). ap (λ t. every (meetsLower v) ls && t) (sym (upper-all us v) ∙ upper-untied us v h))
+
+module _ (p : Source) (start end : ℕ) (lows ups : List Bound) (k : Call) (ks : List Call) where
+  abbrev q : Sequence
+  q = p .sequence
+
+  first : rises q start end ≡ true → (l u : Limit) (ls us : List Bound)
+      → on q (begins q start end l u (least us) (greatest ls) (k .move)) ks ≡ expectedFrom q end (both (greatest ls) (least us)) start start (counts ls (k .move) ∷ moves ks)
+  unfolding expectedFrom
+  first rise l u [] us = first-open q start end rise (least us) l u ks (k .move)
+  first rise l u (b ∷ bs) us = first-low q start end rise (least us) l u ks (fold greater b bs) (k .move)
+
+  pub by-folded : every accepted (answers p start end lows ups k ks) ≡ true
+      → answers p start end lows ups k ks
+      ≡ expectedFrom q end (both (greatest (allLower lows k)) (least (allUpper ups k))) start start (counts (allLower lows k) (k .move) ∷ moves ks)
+  unfolding every answersOf steps stepFrom
+  by-folded acc =
+      let f = newFilter (fresh start end) lows ups in
+      opened-run p (k ∷ ks) f acc
+      ∙ rw (folded-twice lesser ups (asRead (inputs (k .inputs)) (variables (k .upper))), folded-twice greater lows (asRead (inputs (k .inputs)) (variables (k .lower))))
+      (first (run-rises p k ks f acc) (greatest lows) (least ups) (allLower lows k) (allUpper ups k))

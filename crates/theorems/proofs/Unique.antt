@@ -1,0 +1,199 @@
+-- "the promise leaves one possible result .., and a proof says that two results meeting it are equal". Assumes nothing.
+use Prim.Native.Nat.{ℕ, _-_}
+use mathlib.Core.Path.{_≡_, refl, sym, ap, _∙_}
+use mathlib.Core.Bool.{true, false}
+use mathlib.Core.List.{[], _∷_}
+use mathlib.Core.Option.{Option, some, none}
+use lib.ListN.{getD}
+use lib.IntN.{ℤ}
+use Rattle.meaning.specs.declared.Refusal.{Refusal}
+use Rattle.meaning.specs.declared.Refusal.the-variants.{Shape, Ends, Reach, Index, Window, Scan as OffScan, Order, Bounds as OverBounds, Input as NoInput, Room, Cut, Kind, Size}
+use Rattle.meaning.specs.Refusals.{Said, Gives, Number, numberOf}
+use Rattle.meaning.specs.Sequence.{Source}
+use Rattle.meaning.specs.Column.{Column}
+use Rattle.meaning.specs.Calls.{diffStepOf, checkOf, lenOf, isEmptyOf, placeOf, getOf}
+use Rattle.loftsplice.specs.declared.run_length_encodable.Difference.{Difference}
+use Rattle.loftsplice.specs.declared.run_length_encodable.Difference.the-variants.{Step, None as NoStep}
+use Rattle.checked.specs.declared.Checked.{Checked}
+use Rattle.checked.specs.declared.Checked.the-variants.{Fine, Refused as CheckedRefused}
+use Rattle.loftsplice.specs.declared.rle.Length.{Length}
+use Rattle.loftsplice.specs.declared.rle.Length.the-variants.{Is, Refused as LengthRefused}
+use Rattle.loftsplice.specs.declared.rle.Emptiness.{Emptiness}
+use Rattle.loftsplice.specs.declared.rle.Emptiness.the-variants.{Empty, Held, Refused as EmptinessRefused}
+use Rattle.loftsplice.specs.declared.rle.Placed.{Placed}
+use Rattle.loftsplice.specs.declared.rle.Placed.the-variants.{At as PlacedAt, Refused as PlacedRefused}
+use Rattle.loftsplice.specs.declared.rle.Got.{Got}
+use Rattle.loftsplice.specs.declared.rle.Got.the-variants.{Value as GotValue, Refused as GotRefused}
+use Rattle.loftsplice.specs.declared.scan.Scan.{Scan}
+use Rattle.loftsplice.specs.declared.scan.Answer.{Answer}
+use Rattle.loftsplice.specs.declared.scan.Answer.the-variants.{Value, None, Refused}
+use Rattle.loftsplice.specs.declared.scan.Position.{Position}
+use Rattle.loftsplice.specs.declared.scan.Position.the-variants.{Index as AtIndex, None as NoIndex, Refused as PositionRefused}
+use Rattle.loftsplice.specs.declared.scan.Made.{Made}
+use Rattle.loftsplice.specs.declared.scan.Made.the-variants.{Ready as MadeReady, Refused as MadeRefused}
+use Rattle.loftsplice.specs.declared.scan.Moved.{Moved}
+use Rattle.loftsplice.specs.declared.filter_interval.Filter.{Filter}
+use Rattle.loftsplice.specs.declared.filter_interval.Bounds.{Bounds}
+use Rattle.loftsplice.specs.declared.filter_interval.Fitted.{Fitted}
+use Rattle.loftsplice.specs.declared.filter_interval.Fitted.the-variants.{Ready as FittedReady, Refused as FittedRefused}
+use Rattle.loftsplice.specs.declared.filter_interval.Sifted.{Sifted}
+use Rattle.checked.specs.Says.{saysChecked}
+use Rattle.loftsplice.specs.Says.{saysDifference, saysLength, saysEmptiness, saysPlaced, saysGot}
+use Rattle.loftsplice.specs.Scan.{saysAnswer, saysPosition, saysMade, outcomeOf, newOf, nextOf, seekOf, narrowOf, resetOf, currentOf, posOf}
+use Rattle.loftsplice.specs.Filter.{Call, saysFitted, siftingOf, fitOf, callOf, filterCurrentOf, filterResetOf}
+
+-- ---- the law
+
+-- what is said tells the results apart
+abbrev pub Injective : {A B : Type 0} → (A → B) → Type 0
+Injective {A} says = (x y : A) → says x ≡ says y → x ≡ y
+
+-- two results that meet one promise are equal
+pub only : {A B : Type 0} (says : A → B) → Injective says → {s : B} (x y : A) → says x ≡ s → says y ≡ s → x ≡ y
+only says apart x y p q = apart x y (p ∙ sym q)
+
+-- what can be undone tells its arguments apart
+pub undone : {A B : Type 0} (says : A → B) (back : B → A) → ((x : A) → back (says x) ≡ x) → Injective says
+undone says back is x y e = sym (is x) ∙ ap back e ∙ is y
+
+-- ---- the numbers
+
+-- the refusal of a number
+abbrev refusalOf : ℕ → Refusal
+refusalOf n = getD (Shape ∷ Ends ∷ Reach ∷ Index ∷ Window ∷ OffScan ∷ Order ∷ OverBounds ∷ NoInput ∷ Room ∷ Cut ∷ Kind ∷ Size ∷ []) (n - 1) Shape
+
+refusal-is : (why : Refusal) → refusalOf (numberOf why) ≡ why
+refusal-is = elim [
+  | Shape ↦ refl
+  | Ends ↦ refl
+  | Reach ↦ refl
+  | Index ↦ refl
+  | Window ↦ refl
+  | OffScan ↦ refl
+  | Order ↦ refl
+  | OverBounds ↦ refl
+  | NoInput ↦ refl
+  | Room ↦ refl
+  | Cut ↦ refl
+  | Kind ↦ refl
+  | Size ↦ refl
+]
+
+-- no two refusals have one number
+pub number-apart : Injective numberOf
+number-apart = undone numberOf refusalOf refusal-is
+
+-- ---- what each answer says
+
+pub difference-apart : Injective saysDifference
+difference-apart = undone saysDifference (elim [ some d ↦ Step d | none ↦ NoStep ]) (elim [ Step d ↦ refl | NoStep ↦ refl ])
+
+pub checked-apart : Injective saysChecked
+checked-apart = undone saysChecked (elim [ Gives x ↦ Fine | Number n ↦ CheckedRefused (refusalOf n) ])
+    (elim [ Fine ↦ refl | CheckedRefused w ↦ ap CheckedRefused (refusal-is w) ])
+
+pub length-apart : Injective saysLength
+length-apart = undone saysLength (elim [ Gives n ↦ Is n | Number n ↦ LengthRefused (refusalOf n) ])
+    (elim [ Is n ↦ refl | LengthRefused w ↦ ap LengthRefused (refusal-is w) ])
+
+pub emptiness-apart : Injective saysEmptiness
+emptiness-apart = undone saysEmptiness (elim [ Gives true ↦ Empty | Gives false ↦ Held | Number n ↦ EmptinessRefused (refusalOf n) ])
+    (elim [ Empty ↦ refl | Held ↦ refl | EmptinessRefused w ↦ ap EmptinessRefused (refusal-is w) ])
+
+pub placed-apart : Injective saysPlaced
+placed-apart = undone saysPlaced (elim [ Gives x ↦ PlacedAt (x .run) (x .offset) | Number n ↦ PlacedRefused (refusalOf n) ])
+    (elim [ PlacedAt r k ↦ refl | PlacedRefused w ↦ ap PlacedRefused (refusal-is w) ])
+
+pub got-apart : Injective saysGot
+got-apart = undone saysGot (elim [ Gives v ↦ GotValue v | Number n ↦ GotRefused (refusalOf n) ])
+    (elim [ GotValue v ↦ refl | GotRefused w ↦ ap GotRefused (refusal-is w) ])
+
+pub made-apart : Injective saysMade
+made-apart = undone saysMade (elim [ Gives s ↦ MadeReady s | Number n ↦ MadeRefused (refusalOf n) ])
+    (elim [ MadeReady s ↦ refl | MadeRefused w ↦ ap MadeRefused (refusal-is w) ])
+
+pub fitted-apart : Injective saysFitted
+fitted-apart = undone saysFitted (elim [ Gives f ↦ FittedReady f | Number n ↦ FittedRefused (refusalOf n) ])
+    (elim [ FittedReady f ↦ refl | FittedRefused w ↦ ap FittedRefused (refusal-is w) ])
+
+pub position-apart : Injective saysPosition
+position-apart = undone saysPosition (elim [ Gives (some i) ↦ AtIndex i | Gives none ↦ NoIndex | Number n ↦ PositionRefused (refusalOf n) ])
+    (elim [ AtIndex i ↦ refl | NoIndex ↦ refl | PositionRefused w ↦ ap PositionRefused (refusal-is w) ])
+
+-- the answer that says this
+abbrev answerOf : Said (Option ℤ) → Answer
+answerOf (Gives (some v)) = Value v
+answerOf (Gives none) = None
+answerOf (Number n) = Refused (refusalOf n)
+
+answer-is : (a : Answer) → answerOf (saysAnswer a) ≡ a
+answer-is = elim [ Value v ↦ refl | None ↦ refl | Refused w ↦ ap Refused (refusal-is w) ]
+
+pub answer-apart : Injective saysAnswer
+answer-apart = undone saysAnswer answerOf answer-is
+
+-- with the scan, and with the filter, that is handed back
+pub outcome-apart : Injective outcomeOf
+outcome-apart = undone outcomeOf (λ o. record { scan = o .scan; answer = answerOf (o .said) }) (λ m. rw (answer-is (m .answer)))
+
+pub sifting-apart : Injective siftingOf
+sifting-apart = undone siftingOf (λ o. record { filter = o .filter; answer = answerOf (o .said) }) (λ m. rw (answer-is (m .answer)))
+
+-- ---- a line a call
+
+pub diff-step-one : (previous current : ℤ) (x y : Difference) → saysDifference x ≡ diffStepOf previous current → saysDifference y ≡ diffStepOf previous current → x ≡ y
+diff-step-one previous current = only saysDifference difference-apart
+
+module _ (c : Column) where
+  pub check-one : (x y : Checked) → saysChecked x ≡ checkOf c → saysChecked y ≡ checkOf c → x ≡ y
+  check-one = only saysChecked checked-apart
+
+  pub len-one : (x y : Length) → saysLength x ≡ lenOf c → saysLength y ≡ lenOf c → x ≡ y
+  len-one = only saysLength length-apart
+
+  pub is-empty-one : (x y : Emptiness) → saysEmptiness x ≡ isEmptyOf c → saysEmptiness y ≡ isEmptyOf c → x ≡ y
+  is-empty-one = only saysEmptiness emptiness-apart
+
+  pub place-one : (i : ℕ) (x y : Placed) → saysPlaced x ≡ placeOf c i → saysPlaced y ≡ placeOf c i → x ≡ y
+  place-one i = only saysPlaced placed-apart
+
+  pub get-one : (i : ℕ) (x y : Got) → saysGot x ≡ getOf c i → saysGot y ≡ getOf c i → x ≡ y
+  get-one i = only saysGot got-apart
+
+module _ (p : Source) where
+  pub new-one : (x y : Made) → saysMade x ≡ newOf p → saysMade y ≡ newOf p → x ≡ y
+  new-one = only saysMade made-apart
+
+  module _ (s : Scan) where
+    pub next-one : (x y : Moved) → outcomeOf x ≡ nextOf p s → outcomeOf y ≡ nextOf p s → x ≡ y
+    next-one = only outcomeOf outcome-apart
+
+    pub seek-one : (target : ℤ) (x y : Moved) → outcomeOf x ≡ seekOf p target s → outcomeOf y ≡ seekOf p target s → x ≡ y
+    seek-one target = only outcomeOf outcome-apart
+
+    pub narrow-one : (start end : ℕ) (x y : Moved) → outcomeOf x ≡ narrowOf p start end s → outcomeOf y ≡ narrowOf p start end s → x ≡ y
+    narrow-one start end = only outcomeOf outcome-apart
+
+    pub reset-one : (x y : Moved) → outcomeOf x ≡ resetOf p s → outcomeOf y ≡ resetOf p s → x ≡ y
+    reset-one = only outcomeOf outcome-apart
+
+    pub current-one : (x y : Answer) → saysAnswer x ≡ currentOf p s → saysAnswer y ≡ currentOf p s → x ≡ y
+    current-one = only saysAnswer answer-apart
+
+    pub pos-one : (x y : Position) → saysPosition x ≡ posOf p s → saysPosition y ≡ posOf p s → x ≡ y
+    pos-one = only saysPosition position-apart
+
+  module _ (f : Filter) where
+    -- next and seek
+    pub filter-call-one : (k : Call) (x y : Sifted) → siftingOf x ≡ callOf p k f → siftingOf y ≡ callOf p k f → x ≡ y
+    filter-call-one k = only siftingOf sifting-apart
+
+    pub filter-current-one : (x y : Answer) → saysAnswer x ≡ filterCurrentOf p f → saysAnswer y ≡ filterCurrentOf p f → x ≡ y
+    filter-current-one = only saysAnswer answer-apart
+
+-- reset promises its result itself
+pub filter-reset-one : (f x y : Filter) → x ≡ filterResetOf f → y ≡ filterResetOf f → x ≡ y
+filter-reset-one f = only (λ x. x) (λ x y e. e)
+
+pub filter-new-one : (s : Scan) (lows ups : Bounds) (x y : Fitted) → saysFitted x ≡ fitOf s lows ups → saysFitted y ≡ fitOf s lows ups → x ≡ y
+filter-new-one s lows ups = only saysFitted fitted-apart

@@ -1,0 +1,92 @@
+-- The words of demand 3: what a run of calls on a new filter is to answer. Assumes nothing.
+use Prim.Native.Nat.{ℕ, suc}
+use mathlib.Core.Bool.{Bool, true, false, cond, not, _&&_}
+use mathlib.Core.List.{List, [], _∷_, _++_, map}
+use mathlib.Core.Option.{Option, some, none}
+use lib.Dec.{ltb}
+use lib.IntN.{ℤ}
+use lib.Signed.{ltZ}
+use Rattle.ranges.specs.Ranges.{firstFrom, every, someOf}
+use Rattle.meaning.specs.Refusals.{Said, Gives, Number}
+use Rattle.meaning.specs.Sequence.{Sequence, Source}
+use Rattle.loftsplice.specs.declared.filter_interval.Bound.{Bound}
+use Rattle.loftsplice.specs.declared.filter_interval.Filter.{Filter}
+use Rattle.loftsplice.specs.Scan.{fresh}
+use Rattle.loftsplice.specs.Filter.{isExclusive, meetsLower, meetsUpper, inputs, variables, asRead, Move, Next, Seek, Call, newFilter, callOf}
+
+-- ---- a run of calls
+
+-- "any run of .. next and seek calls": one after the other, each on the filter that the one before handed back
+unfoldable pub answersOf : Source → Filter → List Call → List (Said (Option ℤ))
+answersOf p f [] = []
+answersOf p f (k ∷ ks) = callOf p k f .said ∷ answersOf p (callOf p k f .filter) ks
+
+-- "a fresh scan on it, a new filter": what a first call k and calls ks after it answer
+abbrev pub answers : Source → ℕ → ℕ → List Bound → List Bound → Call → List Call → List (Said (Option ℤ))
+answers p start end lows ups k ks = answersOf p (newFilter (fresh start end) lows ups) (k ∷ ks)
+
+-- "accepted": the answer is no refusal
+abbrev pub accepted : {A : Type 0} → Said A → Bool
+accepted (Gives a) = true
+accepted (Number n) = false
+
+-- next or seek, of each call
+abbrev pub moves : List Call → List Move
+moves ks = map (λ k. k .move) ks
+
+-- ---- the bounds
+
+-- "every bound as read at the first call": the constants, and the variables as read
+abbrev pub allLower : List Bound → Call → List Bound
+allLower lows k = lows ++ asRead (inputs (k .inputs)) (variables (k .lower))
+
+abbrev pub allUpper : List Bound → Call → List Bound
+allUpper ups k = ups ++ asRead (inputs (k .inputs)) (variables (k .upper))
+
+-- "meets every bound": each one that is given, with no folding
+unfoldable pub meetsAll : List Bound → List Bound → ℤ → Bool
+meetsAll lows ups v = every (meetsLower v) lows && every (meetsUpper v) ups
+
+-- neither is below the other
+abbrev pub equal : ℤ → ℤ → Bool
+equal a b = not (ltZ a b) && not (ltZ b a)
+
+-- v is the "least upper value given both as inclusive and exclusive"
+unfoldable pub bothWays : List Bound → ℤ → Bool
+bothWays ups v =
+    every (λ b. not (ltZ (b .value) v)) ups && someOf (λ b. equal (b .value) v && not (isExclusive (b .boundary))) ups
+    && someOf (λ b. equal (b .value) v && isExclusive (b .boundary)) ups
+
+-- there is such a value
+unfoldable pub tied : List Bound → Bool
+tied ups = someOf (λ b. bothWays ups (b .value)) ups
+
+-- ---- the answers
+
+-- the element at an index that was looked for, or none: "none exactly if there is no such element"
+unfoldable pub answerAt : Sequence → ℕ → ℕ → Said (Option ℤ)
+answerAt q end i = cond (ltb i end) (Gives (some (q .at i))) (Gives none)
+
+-- Over the elements of q before index `end` that meet a test:
+module _ (q : Sequence) (end : ℕ) (meets : ℤ → Bool) where
+  -- the index of "the earliest element that meets every bound .. and lies after the last one given (for a seek: at or after it, and not below the
+  -- target)": a next looks from index a on, a seek from index b on; at `end` or beyond there is none
+  unfoldable pub earliest : ℕ → ℕ → Move → ℕ
+  earliest a b Next = firstFrom (λ i. meets (q .at i)) a end
+  earliest a b (Seek x) = firstFrom (λ i. meets (q .at i) && not (ltZ (q .at i) x)) b end
+
+  -- call by call: what the call before gave, at index i, is the last one given; a next looks after i, a seek from i on. After a none i is at `end`
+  -- or beyond, and nothing is found any more.
+  unfoldable pub expectedFrom : ℕ → ℕ → List Move → List (Said (Option ℤ))
+  expectedFrom a b [] = []
+  expectedFrom a b (m ∷ ms) = let i = earliest a b m in answerAt q end i ∷ expectedFrom (suc i) i ms
+
+-- "A first-call seek with no lower bound counts as a next."
+abbrev pub counts : List Bound → Move → Move
+counts [] m = Next
+counts (b ∷ bs) m = m
+
+-- what a first call k and calls ks after it are to answer
+unfoldable pub expected : Sequence → ℕ → ℕ → List Bound → List Bound → Call → List Call → List (Said (Option ℤ))
+expected q start end lows ups k ks =
+    expectedFrom q end (meetsAll (allLower lows k) (allUpper ups k)) start start (counts (allLower lows k) (k .move) ∷ moves ks)

@@ -1,0 +1,160 @@
+-- More words for runs of calls: lists and walks, ties, runs on a scan, and which runs are accepted. Assumes nothing.
+use Prim.Native.Nat.{ℕ, zero, suc, _-_}
+use mathlib.Core.Bool.{Bool, true, false, cond, not, _&&_, _||_}
+use mathlib.Core.List.{List, [], _∷_}
+use mathlib.Core.Option.{Option, some, none}
+use lib.Dec.{ltb}
+use lib.IntN.{ℤ}
+use lib.Signed.{ltZ}
+use Rattle.ranges.specs.Ranges.{every}
+use Rattle.meaning.specs.Refusals.{Said, Gives, Number}
+use Rattle.meaning.specs.Sequence.{Sequence, Source, rises}
+use Rattle.loftsplice.specs.declared.scan.State.{State}
+use Rattle.loftsplice.specs.declared.scan.State.the-variants.{Fresh, At, Ended}
+use Rattle.loftsplice.specs.declared.scan.Scan.{Scan}
+use Rattle.loftsplice.specs.declared.filter_interval.Bound.{Bound}
+use Rattle.loftsplice.specs.declared.filter_interval.Limit.{Limit}
+use Rattle.loftsplice.specs.declared.filter_interval.Limit.the-variants.{Free, To}
+use Rattle.loftsplice.specs.declared.filter_interval.Filter.{Filter}
+use Rattle.loftsplice.specs.Scan.{Outcome, badScan, nextOf, seekOf}
+use Rattle.loftsplice.specs.Filter.{meetsLower, meetsUpper, inputs, variables, readable, tooMany, unread, Move, Next, Seek, Call, callOf}
+use Rattle.theorems.specs.Promise.{accepted, allLower, allUpper, meetsAll, bothWays}
+
+-- ---- none stays, and next alone
+
+-- the answer is none
+abbrev pub isNone : Said (Option ℤ) → Bool
+isNone (Gives none) = true
+isNone (Gives (some v)) = false
+isNone (Number n) = false
+
+-- "From then on all answer none."
+unfoldable pub noneStays : List (Said (Option ℤ)) → Bool
+noneStays [] = true
+noneStays (a ∷ rest) = cond (isNone a) (every isNone rest) (noneStays rest)
+
+-- "Next alone"
+abbrev pub isNext : Move → Bool
+isNext Next = true
+isNext (Seek x) = false
+
+-- the elements of a window, in order: of n indices from a on, and of start..end
+unfoldable pub elementsFor : Sequence → ℕ → ℕ → List ℤ
+elementsFor q a zero = []
+elementsFor q a (suc n) = q .at a ∷ elementsFor q (suc a) n
+
+abbrev pub elementsIn : Sequence → ℕ → ℕ → List ℤ
+elementsIn q start end = elementsFor q start (end - start)
+
+-- those of a list that meet a test
+unfoldable pub those : (ℤ → Bool) → List ℤ → List ℤ
+those meets [] = []
+those meets (x ∷ xs) = cond (meets x) (x ∷ those meets xs) (those meets xs)
+
+-- "every such element once, in order": the elements of the window that meet every bound
+abbrev pub suchElements : Sequence → ℕ → ℕ → List Bound → List Bound → Call → List ℤ
+suchElements q start end lows ups k = those (meetsAll (allLower lows k) (allUpper ups k)) (elementsIn q start end)
+
+-- n answers that list xs: its elements, then none
+unfoldable pub listing : ℕ → List ℤ → List (Said (Option ℤ))
+listing zero xs = []
+listing (suc n) [] = Gives none ∷ listing n []
+listing (suc n) (x ∷ xs) = Gives (some x) ∷ listing n xs
+
+-- ---- the expected answers without an index: a walk through the list of such elements
+
+-- a list from its first element on that is not below x
+unfoldable pub notBelow : ℤ → List ℤ → List ℤ
+notBelow x [] = []
+notBelow x (y ∷ ys) = cond (ltZ y x) (notBelow x ys) (y ∷ ys)
+
+-- xs: what a next may still give; ys: what a seek may still give, which is the last one given and xs
+abbrev pub ahead : List ℤ → List ℤ → Move → List ℤ
+ahead xs ys Next = xs
+ahead xs ys (Seek x) = notBelow x ys
+
+-- the first of a list, or none; and the others
+abbrev pub firstOf : List ℤ → Said (Option ℤ)
+firstOf [] = Gives none
+firstOf (z ∷ zs) = Gives (some z)
+
+abbrev pub restOf : List ℤ → List ℤ
+restOf [] = []
+restOf (z ∷ zs) = zs
+
+-- each call gives the first of what is ahead of it; what is left is ahead of the next call
+unfoldable pub walk : List ℤ → List ℤ → List Move → List (Said (Option ℤ))
+walk xs ys [] = []
+walk xs ys (m ∷ ms) = let zs = ahead xs ys m in firstOf zs ∷ walk (restOf zs) zs ms
+
+-- ---- folded bounds, and a tie
+
+-- v meets a limit below
+abbrev pub above : Limit → ℤ → Bool
+above Free v = true
+above (To b) v = meetsLower v b
+
+-- what a filter lets through, with a tie or without: "the least is the inclusive one although the comment asks that all bounds be met"
+unfoldable pub letThrough : List Bound → List Bound → ℤ → Bool
+letThrough lows ups v = every (meetsLower v) lows && (every (meetsUpper v) ups || bothWays ups v)
+
+-- ---- runs on a scan
+
+-- next or seek
+abbrev pub scanMove : Source → Move → Scan → Outcome
+scanMove p Next s = nextOf p s
+scanMove p (Seek x) s = seekOf p x s
+
+-- one after the other, each on the scan that the one before handed back
+unfoldable pub scanAnswers : Source → Scan → List Move → List (Said (Option ℤ))
+scanAnswers p s [] = []
+scanAnswers p s (m ∷ ms) = scanMove p m s .said ∷ scanAnswers p (scanMove p m s .scan) ms
+
+-- with no bounds every element meets them
+abbrev pub anything : ℤ → Bool
+anything v = true
+
+-- where a scan stands: fresh at the window's start, ended at its end
+abbrev pub standsIn : Scan → State → ℕ
+standsIn s Fresh = s .start
+standsIn s (At i) = i
+standsIn s Ended = s .end
+
+abbrev pub standing : Scan → ℕ
+standing s = standsIn s (s .state)
+
+-- ---- which calls are accepted
+
+-- a column that is refused by none of 1, 2 and 3
+unfoldable pub soundSource : Source → Bool
+soundSource p = not (p .shape) && not (p .ends) && not (p .reach)
+
+-- next or seek on a scan: none of 1, 2, 3 and 6, and for a seek 7, is to be given
+unfoldable pub allowedScan : Source → Move → Scan → Bool
+allowedScan p m s = soundSource p && not (badScan (p .sequence) s) && (isNext m || rises (p .sequence) (s .start) (s .end))
+
+-- next or seek on a filter: none of 1, 2, 3, 6, 8, 7 and 9 is to be given
+unfoldable pub allowed : Source → Call → Filter → Bool
+allowed p k f =
+    soundSource p && not (badScan (p .sequence) (f .scan)) && not (tooMany k) && rises (p .sequence) (f .scan .start) (f .scan .end)
+    && not (unread k (f .state))
+
+-- "a window that strictly rises", and that ends within a sound column
+unfoldable pub risingWindow : Source → ℕ → ℕ → Bool
+risingWindow p start end = soundSource p && not (ltb (p .sequence .size) end) && rises (p .sequence) start end
+
+-- a run of a first call k and calls ks after it, on a new filter and a fresh scan: such a window, no call that hands over too many bounds or inputs,
+-- and a first call whose variable bounds name inputs that have a value
+unfoldable pub acceptable : Source → ℕ → ℕ → Call → List Call → Bool
+acceptable p start end k ks =
+    risingWindow p start end && every (λ k. not (tooMany k)) (k ∷ ks)
+    && (readable (inputs (k .inputs)) (variables (k .lower)) && readable (inputs (k .inputs)) (variables (k .upper)))
+
+-- of any run, the calls that are accepted, and of its answers, those of accepted calls
+unfoldable pub kept : Source → Filter → List Call → List Call
+kept p f [] = []
+kept p f (k ∷ ks) = cond (accepted (callOf p k f .said)) (k ∷ kept p (callOf p k f .filter) ks) (kept p (callOf p k f .filter) ks)
+
+unfoldable pub only : List (Said (Option ℤ)) → List (Said (Option ℤ))
+only [] = []
+only (a ∷ rest) = cond (accepted a) (a ∷ only rest) (only rest)

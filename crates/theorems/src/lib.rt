@@ -1,0 +1,1 @@
+// Theorems about the definitions: the words in specs/, the theorems in proofs/, no code.
