@@ -1,5 +1,6 @@
 // Run-length columns whose every answer is proved. Every public call is total: what it can't answer it refuses, by document 01's number.
 pub mod filter_interval;
+pub mod refusal;
 pub mod rle;
 pub mod run_length_encodable;
 pub mod scan;

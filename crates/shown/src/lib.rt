@@ -1,0 +1,83 @@
+// Answers as text on standard output, for the programs that run examples. What is written is compared with stored text, not proved.
+use checked::Checked;
+use libc::STDOUT_FILENO;
+use loftsplice::refusal::number;
+use loftsplice::rle::Emptiness;
+use loftsplice::rle::Got;
+use loftsplice::rle::Length;
+use loftsplice::rle::Placed;
+use loftsplice::run_length_encodable::Difference;
+use meaning::Refusal;
+
+pub fn text(s: &[u8]) {
+    io::write_all(STDOUT_FILENO, s);
+}
+
+pub fn unsigned(n: u64) {
+    io::print_decimal(STDOUT_FILENO, n);
+}
+
+// A number with its sign, by its key: 2^63 is 0.
+pub fn signed(x: i64) {
+    let k = keys::bias(x);
+    if k < 9223372036854775808 {
+        text(b"-");
+        unsigned(9223372036854775808 - k);
+    } else {
+        unsigned(k - 9223372036854775808);
+    }
+}
+
+pub fn refused(why: Refusal) {
+    text(b"refused ");
+    unsigned(number(why) as u64);
+}
+
+pub fn difference(d: Difference) {
+    match d {
+        Difference::Step(step) => signed(step as i64),
+        Difference::None => text(b"none"),
+    }
+}
+
+pub fn checked(c: Checked) {
+    match c {
+        Checked::Fine => text(b"fine"),
+        Checked::Refused(why) => refused(why),
+    }
+}
+
+pub fn length(n: Length) {
+    match n {
+        Length::Is(k) => unsigned(k),
+        Length::Refused(why) => refused(why),
+    }
+}
+
+pub fn emptiness(e: Emptiness) {
+    match e {
+        Emptiness::Empty => text(b"empty"),
+        Emptiness::Held => text(b"not empty"),
+        Emptiness::Refused(why) => refused(why),
+    }
+}
+
+pub fn placed(p: Placed) {
+    match p {
+        Placed::At(run, offset) => {
+            text(b"(");
+            unsigned(run as u64);
+            text(b",");
+            unsigned(offset);
+            text(b")");
+        }
+        Placed::Refused(why) => refused(why),
+    }
+}
+
+pub fn got(g: Got) {
+    match g {
+        Got::Value(v) => signed(v),
+        Got::Refused(why) => refused(why),
+    }
+}
