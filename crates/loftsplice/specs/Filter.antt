@@ -79,12 +79,16 @@ greatest bs = folded greater bs
 abbrev pub least : List Bound → Limit
 least bs = folded lesser bs
 
--- v meets a lower bound, an upper bound, and a limit above
+-- v meets a lower bound, an upper bound, a limit below and a limit above
 unfoldable pub meetsLower : ℤ → Bound → Bool
 meetsLower v b = cond (isExclusive (b .boundary)) (ltZ (b .value) v) (not (ltZ v (b .value)))
 
 unfoldable pub meetsUpper : ℤ → Bound → Bool
 meetsUpper v b = cond (isExclusive (b .boundary)) (ltZ v (b .value)) (not (ltZ (b .value) v))
+
+abbrev pub above : Limit → ℤ → Bool
+above Free v = true
+above (To b) v = meetsLower v b
 
 abbrev pub within : Limit → ℤ → Bool
 within Free v = true

@@ -1,3 +1,4 @@
 pub mod Says
 pub mod Scan
 pub mod Filter
+pub mod Listing

@@ -4,3 +4,4 @@ pub mod refusal;
 pub mod rle;
 pub mod run_length_encodable;
 pub mod scan;
+pub mod listing;
