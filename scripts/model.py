@@ -86,3 +86,135 @@ def runs(*rs):
 
 C = runs((10, 5, 4), (30, 0, 1), (31, -3, 1), (40, 100, 3))
 D = runs((10, -5, 2), (6, 1, 3))
+
+
+class Scan:
+    """A window and a state: 'F' fresh, 'E' ended, or an index."""
+
+    def __init__(self, column, start=None, end=None, state='F'):
+        if start is None:
+            column.check()
+            start, end = 0, column.length
+        self.column, self.start, self.end, self.state = column, start, end, state
+
+    def check(self):
+        """1, 2, 3, 6"""
+        self.column.check()
+        outside = isinstance(self.state, int) and not self.start <= self.state < self.end
+        refuse_if(self.end > self.column.length or outside, SCAN)
+
+    def check_order(self):
+        refuse_if(not self.column.rises(self.start, self.end), ORDER)
+
+    def go_to(self, i):
+        self.state = i if i < self.end else 'E'
+        return self.here()
+
+    def here(self):
+        return self.column.element(self.state) if isinstance(self.state, int) else None
+
+    def move_next(self):
+        if self.state == 'E':
+            return None
+        return self.go_to(self.start if self.state == 'F' else self.state + 1)
+
+    def move_seek(self, target):
+        if self.state == 'E':
+            return None
+        i = self.start if self.state == 'F' else self.state
+        while i < self.end and self.column.element(i) < target:
+            run, _ = self.column.at(i)
+            stop = min(self.column.ends[run], self.end)
+            step = self.column.steps[run]
+            # within a run that rises, skip what is below the target at once
+            i = min(stop, i + max(1, -(-(target - self.column.element(i)) // step))) if step > 0 else i + 1
+        return self.go_to(i)
+
+    def next(self):
+        self.check()
+        return self.move_next()
+
+    def seek(self, target):
+        self.check()
+        self.check_order()
+        return self.move_seek(target)
+
+    def narrow(self, start, end):
+        self.check()
+        refuse_if(end > self.column.length, WINDOW)
+        self.start, self.end, self.state = start, end, 'F'
+
+    def reset(self):
+        self.check()
+        self.state = 'F'
+
+    def current(self):
+        self.check()
+        return self.here()
+
+    def pos(self):
+        self.check()
+        return self.state if isinstance(self.state, int) else None
+
+
+def order(bound):
+    """By value, then inclusive before exclusive. A bound is (value, exclusive)."""
+    return bound[0], bound[1]
+
+
+def meets_upper(v, up):
+    return up is None or (v < up[0] if up[1] else v <= up[0])
+
+
+class Filter:
+    """State 'B' Before, 'A' After, or ('W', the upper bound that it keeps)."""
+
+    def __init__(self, scan, lower, upper):
+        refuse_if(len(lower) > 16 or len(upper) > 16, BOUNDS)
+        self.scan, self.state = scan, 'B'
+        self.lower, self.upper = max(lower, key=order, default=None), min(upper, key=order, default=None)
+
+    def check(self, lower, upper, inputs):
+        """1, 2, 3, 6, 8, 7, 9"""
+        self.scan.check()
+        refuse_if(len(lower) > 16 or len(upper) > 16 or len(inputs) > 8, BOUNDS)
+        self.scan.check_order()
+        if self.state == 'B':
+            refuse_if(any(i >= len(inputs) or inputs[i] is None for i, _ in lower + upper), INPUT)
+
+    def settle(self, v, up):
+        self.state = ('W', up) if v is not None and meets_upper(v, up) else 'A'
+        return v if self.state != 'A' else None
+
+    def call(self, move, lower, upper, inputs, target=None):
+        self.check(lower, upper, inputs)
+        if self.state == 'A':
+            return None
+        if self.state != 'B':
+            v = self.scan.move_next() if move == 'next' else self.scan.move_seek(target)
+            return self.settle(v, self.state[1])
+        lows = [b for b in [self.lower] if b] + [(inputs[i], x) for i, x in lower]
+        ups = [b for b in [self.upper] if b] + [(inputs[i], x) for i, x in upper]
+        low, up = max(lows, key=order, default=None), min(ups, key=order, default=None)
+        if low is None:
+            v = self.scan.move_next()
+        else:
+            if move == 'seek':
+                low = max(low, (target, False), key=order)
+            v = self.scan.move_seek(low[0])
+            if low[1] and v == low[0]:
+                v = self.scan.move_next()
+        return self.settle(v, up)
+
+    def next(self, lower=(), upper=(), inputs=()):
+        return self.call('next', list(lower), list(upper), list(inputs))
+
+    def seek(self, target, lower=(), upper=(), inputs=()):
+        return self.call('seek', list(lower), list(upper), list(inputs), target)
+
+    def current(self):
+        self.scan.check()
+        return self.scan.here() if isinstance(self.state, tuple) else None
+
+    def reset(self):
+        self.state = 'B'
