@@ -3,5 +3,7 @@ pub mod filter_interval;
 pub mod refusal;
 pub mod rle;
 pub mod run_length_encodable;
+pub mod rising;
+pub mod seeking;
 pub mod scan;
 pub mod listing;
