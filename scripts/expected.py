@@ -4,7 +4,7 @@ is compared with what it should be, and a difference fails."""
 import pathlib
 import sys
 
-from model import C, D, Column, Refused, diff_step
+from model import C, D, Column, Refused, Scan, diff_step
 
 ROOT = pathlib.Path(__file__).resolve().parent.parent
 
@@ -49,7 +49,73 @@ def run_only():
     return '\n'.join(out) + '\n'
 
 
-PROGRAMS = {'run_only': run_only}
+class Log:
+    """Call sequences on one scan, a line a call."""
+
+    def __init__(self, out, column, scan=None):
+        self.out, self.column = out, column
+        if scan:
+            self.scan = scan
+            return
+        try:
+            self.scan = Scan(column)
+            out.append('new' + self.state())
+        except Refused as r:
+            out.append(f'new: refused {r.number}')
+            self.scan = Scan(column, 0, 0, 'E')
+
+    def state(self):
+        s = self.scan
+        return f' | {s.start}..{s.end} ' + {'F': 'fresh', 'E': 'ended'}.get(s.state, str(s.state))
+
+    def line(self, words, call):
+        self.out.append(f'{words}: ' + said(call, lambda v: 'none' if v is None else str(v)) + self.state())
+
+    def next(self):
+        self.line('next', self.scan.next)
+
+    def seek(self, target):
+        self.line(f'seek {target}', lambda: self.scan.seek(target))
+
+    def narrow(self, start, end):
+        self.line(f'narrow {start}..{end}', lambda: self.scan.narrow(start, end))
+
+    def reset(self):
+        self.line('reset', self.scan.reset)
+
+    def stands(self):
+        show = lambda v: 'none' if v is None else str(v)
+        self.out.append(f'current {said(self.scan.current, show)}, pos {said(self.scan.pos, show)}')
+
+
+def scanned():
+    out = ['C']
+    big, least = 2**63 - 1, -2**63
+    s = Log(out, C)
+    s.stands(), s.seek(16), s.seek(12), s.next(), s.stands(), s.seek(26), s.seek(241), s.stands(), s.next(), s.reset()
+    s = Log(out, C)
+    s.narrow(3, 8), s.next(), s.seek(200), s.narrow(0, 9), s.narrow(3, 3), s.next(), s.narrow(8, 2), s.next()
+    s.narrow(2**64 - 1, 4), s.seek(least), s.narrow(0, 10)
+    s = Log(out, C, Scan(C, 0, 10, 'F'))
+    s.next(), s.narrow(0, 1), s.reset()
+    s = Log(out, C, Scan(C, 2, 4, 4))
+    s.seek(0), s.stands()
+
+    def falling(c):
+        s = Log(out, c)
+        s.seek(6), s.next(), s.narrow(1, 5), s.seek(6), s.stands(), s.narrow(1, 2), s.seek(5), s.seek(6), s.narrow(1, 4), s.seek(8)
+
+    out.append('D')
+    falling(D)
+    out.append('far')
+    s = Log(out, Column([least, big - 1], [3, 5], [32767, 1]))
+    s.seek(0), s.seek(big - 1), s.next(), s.reset(), s.seek(big)
+    out.append('damaged')
+    falling(Column([10, 6], [2, 2], [-5, 1]))
+    return '\n'.join(out) + '\n'
+
+
+PROGRAMS = {'run_only': run_only, 'scanned': scanned}
 
 
 def main():

@@ -1,9 +1,9 @@
 // Run-length columns whose every answer is proved. Every public call is total: what it can't answer it refuses, by document 01's number.
 pub mod filter_interval;
+pub mod listing;
 pub mod refusal;
+pub mod rising;
 pub mod rle;
 pub mod run_length_encodable;
-pub mod rising;
-pub mod seeking;
 pub mod scan;
-pub mod listing;
+pub mod seeking;

@@ -7,6 +7,10 @@ use loftsplice::rle::Got;
 use loftsplice::rle::Length;
 use loftsplice::rle::Placed;
 use loftsplice::run_length_encodable::Difference;
+use loftsplice::scan::Answer;
+use loftsplice::scan::Position;
+use loftsplice::scan::Scan;
+use loftsplice::scan::State;
 use meaning::Refusal;
 
 pub fn text(s: &[u8]) {
@@ -80,4 +84,40 @@ pub fn got(g: Got) {
         Got::Value(v) => signed(v),
         Got::Refused(why) => refused(why),
     }
+}
+
+pub fn answer(a: Answer) {
+    match a {
+        Answer::Value(v) => signed(v),
+        Answer::None => text(b"none"),
+        Answer::Refused(why) => refused(why),
+    }
+}
+
+pub fn position(p: Position) {
+    match p {
+        Position::Index(i) => unsigned(i),
+        Position::None => text(b"none"),
+        Position::Refused(why) => refused(why),
+    }
+}
+
+fn state(s: State) {
+    match s {
+        State::Fresh => text(b"fresh"),
+        State::At(i) => unsigned(i),
+        State::Ended => text(b"ended"),
+    }
+}
+
+// A scan: its window and its state.
+pub fn scan(s: Scan) {
+    let now = s.state;
+    text(b" | ");
+    unsigned(s.start);
+    text(b"..");
+    unsigned(s.end);
+    text(b" ");
+    state(now);
+    text(b"\n");
 }
