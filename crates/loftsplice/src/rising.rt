@@ -1,7 +1,7 @@
 // Whether a window rises, run by run: two neighbours of a run are told by its step, so no element but a run's last is worked out.
 ghost use mathlib.Core.Path.{_≡_};
 ghost use mathlib.Core.Bool.{true};
-ghost use Prim.Native.Nat.{_≤_, _<_};
+ghost use Prim.Native.Nat.{_+_, _≤_, _<_};
 ghost use lib.ListN.{length};
 ghost use Rattle.meaning.specs.Sequence.{rises};
 ghost use Rattle.meaning.specs.Column.{lent, sizeOf, runOf, sequenceOf, sound};
@@ -13,6 +13,7 @@ use crate::run_length_encodable::element;
 // Whether a run rises from an index of it on, to its end and on to the next run's first element. `first` is its first index.
 fn joins(starts: &[i64], ends: &[u64], steps: &[i16], run: usize, first: u64, index: u64) -> bool
     requires { ⌜ sound (lent (now starts) (now ends) (now steps)) ≡ true ⌝ }
+    requires { ⌜ run + 1 < length (now ends) ⌝ }
     requires { ⌜ Stands (lent (now starts) (now ends) (now steps)) run first index ⌝ }
     ensures { λ r. ⌜ r ≡ joinsOf (lent (now (starts .entry)) (now (ends .entry)) (now (steps .entry))) run index ⌝ }
 {

@@ -25,7 +25,7 @@ fn distance(start: i64, target: i64) -> u64
 }
 
 // A run at which the starts cross the target: a halving search, left with the run as soon as it is known. The first run's start is never
-// read: the window may begin behind it.
+// read: the window may begin past it, and then it says nothing.
 fn run_for(starts: &[i64], target: i64, from: usize, to: usize) -> usize
     requires { ⌜ (from < to) × (to ≤ length (now starts)) ⌝ }
     ensures { λ r. ⌜ RunFor (now (starts .entry)) target from to r ⌝ }

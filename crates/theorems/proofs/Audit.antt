@@ -1,6 +1,6 @@
 -- THE AUDITOR'S THEOREM: a record number is answered with itself exactly if it is in the column. Assumes nothing.
 use Prim.Native.Nat.{ℕ, suc, _<_}
-use mathlib.Core.Path.{_≡_, refl, sym, ap, _∙_}
+use mathlib.Core.Path.{_≡_, refl, sym, ap, _∙_, fun-ext}
 use mathlib.Core.Bool.{Bool, true, false}
 use mathlib.Core.List.{List, [], _∷_, map}
 use mathlib.Core.Option.{some, none}
@@ -11,35 +11,46 @@ use lib.Dec.{ltb}
 use lib.ListN.{length, getD}
 use lib.IntN.{ℤ, pos}
 use Rattle.ranges.specs.Ranges.{every, someOf}
-use Rattle.ranges.proofs.Bools.{In}
-use Rattle.meaning.specs.Refusals.{Gives, Number, tried}
+use Rattle.ranges.proofs.Bools.{and-left, In}
+use Rattle.meaning.specs.Refusals.{Gives}
 use Rattle.meaning.specs.Sequence.{Source, rises}
 use Rattle.meaning.specs.Column.{Column, sizeOf, sequenceOf, sound, sourceOf}
-use Rattle.meaning.proofs.Judging.{sound-first}
 use Rattle.loftsplice.specs.declared.filter_interval.Bound.{Bound}
 use Rattle.loftsplice.specs.Scan.{fresh, newOf, seekOf}
 use Rattle.loftsplice.specs.Filter.{Move, Next, Seek, Call, newFilter}
-use Rattle.theorems.specs.Promise.{answers, accepted, moves, allLower, allUpper, meetsAll, tied, counts, expectedFrom, expected}
+use Rattle.theorems.specs.Exact.{accepted}
+use Rattle.theorems.specs.Demand3.{answers, moves, allLower, allUpper, meetsAll, tied, counts, expectedFrom, expected}
 use Rattle.theorems.specs.Runs.{scanAnswers, anything, risingWindow}
-use Rattle.theorems.specs.Audit.{Holds, HoldsBetween, ascending, seeks, filled, constant}
-use Rattle.theorems.proofs.FilterCalls.{run-rises}
+use Rattle.theorems.specs.Audit.{Holds, HoldsBetween, ascendingFrom, ascending, seeks, filled, constant}
+use Rattle.theorems.proofs.ColumnCalls.{sound-source}
+use Rattle.theorems.proofs.ScanCalls.{new-accepts, new-does}
+use Rattle.theorems.proofs.AcceptedRuns.{constant-lower, constant-upper, constant-accepted}
+use Rattle.theorems.proofs.Folded.{run-rises}
 use Rattle.theorems.proofs.Demand3.{answers-are-expected}
-use Rattle.theorems.proofs.ScanRuns.{rising-accepted, scan-answers-are-expected}
+use Rattle.theorems.proofs.ScanRuns.{rising-parts, rising-accepted, scan-answers-are-expected}
 use Rattle.theorems.proofs.Seeks.{alone, seeks-alone, seeks-after-next, alone-exactly-if, each, filled-are}
-use Rattle.theorems.proofs.Sought.{window-rises, seek-is, seeks-as-fresh, sound-source, constant-lower, constant-upper, first-constant, constant-accepted}
 
 -- ---- any window that rises, of whatever holds a sequence
 
 module _ (p : Source) (start end : ℕ) (rising : risingWindow p start end ≡ true) where
+  -- each of an ascending list is answered as if it were sought alone
+  seeks-are : (ks : List ℤ) → ascending ks ≡ true → seeks p (fresh start end) ks ≡ map (alone (p .sequence) start end anything) ks
+  seeks-are ks h =
+      scan-answers-are-expected p start end (map Seek ks) (rising-accepted p start end rising (map Seek ks)) ∙ seeks-alone (p .sequence) start end anything ks h
+
+  seek-is : (k : ℤ) → seekOf p k (fresh start end) .said ≡ alone (p .sequence) start end anything k
+  unfolding scanAnswers ascendingFrom
+  seek-is k = let h : (seekOf p k (fresh start end) .said ∷ []) ≡ (alone (p .sequence) start end anything k ∷ []) = seeks-are (k ∷ []) refl in cc
+
   -- "a fresh scan's seek of k answers k exactly if some element of the column is k"
   pub found-exactly-if : (k : ℤ) → (seekOf p k (fresh start end) .said ≡ Gives (some k)) ↔ Holds (p .sequence) start end k
   found-exactly-if k =
-      let h = alone-exactly-if (p .sequence) start end anything (window-rises p start end rising) k in
-      (λ e. h .0 (sym (seek-is p start end rising k) ∙ e) .0, λ i. seek-is p start end rising k ∙ h .1 (i, refl))
+      let h = alone-exactly-if (p .sequence) start end anything (rising-parts p start end .0 rising .2) k in
+      (λ e. h .0 (sym (seek-is k) ∙ e) .0, λ i. seek-is k ∙ h .1 (i, refl))
 
   -- "when k1 ≤ k2 ≤ .. are sought one after the other on one scan", each is answered as a fresh scan answers it,
   pub one-after-the-other : (ks : List ℤ) → ascending ks ≡ true → seeks p (fresh start end) ks ≡ map (λ k. seekOf p k (fresh start end) .said) ks
-  one-after-the-other = seeks-as-fresh p start end rising
+  one-after-the-other ks h = seeks-are ks h ∙ ap (λ answer. map answer ks) (fun-ext (λ (k : ℤ). sym (seek-is k)))
 
   -- so "each is answered with itself exactly if it is in the column": the j-th answer and the j-th number
   pub each-found-exactly-if : (ks : List ℤ) → ascending ks ≡ true → (j : ℕ) → j < length ks
@@ -58,8 +69,7 @@ module _ (p : Source) (start end : ℕ) (rising : risingWindow p start end ≡ t
 -- what is said of a window holds of one that rises and ends within a sound column
 pub column-window : (c : Column) (start end : ℕ) → sound c ≡ true → ltb (sizeOf c) end ≡ false → rises (sequenceOf c) start end ≡ true
     → risingWindow (sourceOf c) start end ≡ true
-unfolding risingWindow
-column-window c start end h l r = rw (sound-source c ∙ h, l, r)
+column-window c start end h l r = rising-parts (sourceOf c) start end .1 (sound-source c ∙ h, l, r)
 
 -- "For a sound, rising presence column and any record number k": all of it, on a new scan
 module _ (c : Column) (is-sound : sound c ≡ true) (is-rising : rises (sequenceOf c) 0 (sizeOf c) ≡ true) where
@@ -67,8 +77,7 @@ module _ (c : Column) (is-sound : sound c ≡ true) (is-rising : rises (sequence
   whole = column-window c 0 (sizeOf c) is-sound (le-ltb (sizeOf c) (sizeOf c) (le-refl (sizeOf c))) is-rising
 
   pub new-scan : newOf (sourceOf c) ≡ Gives (fresh 0 (sizeOf c))
-  unfolding newOf tried
-  new-scan = sym (sound-first c Number (Gives (fresh 0 (sizeOf c))) is-sound)
+  new-scan = new-does (sourceOf c) (new-accepts (sourceOf c) .1 (sound-source c ∙ is-sound))
 
   pub column-found-exactly-if : (k : ℤ) → (seekOf (sourceOf c) k (fresh 0 (sizeOf c)) .said ≡ Gives (some k)) ↔ Holds (sequenceOf c) 0 (sizeOf c) k
   column-found-exactly-if = found-exactly-if (sourceOf c) 0 (sizeOf c) whole
@@ -93,32 +102,34 @@ module _ (p : Source) (start end : ℕ) (lows ups : List Bound) (k : Call) (ks :
   unfolding expected
   run-is ms h = answers-are-expected p start end lows ups k ks all-accepted no-tie ∙ ap (expectedFrom (p .sequence) end meets start start) h
 
-  alone-is : (x : ℤ) → (alone (p .sequence) start end meets x ≡ Gives (some x)) ↔ HoldsBetween (p .sequence) start end (allLower lows k) (allUpper ups k) x
-  alone-is = alone-exactly-if (p .sequence) start end meets (run-rises p k ks (newFilter (fresh start end) lows ups) all-accepted)
+  -- the j-th number, and the j-th of the answers that each would have alone
+  each-alone : (xs : List ℤ) (j : ℕ) → j < length xs
+      → (getD (map (alone (p .sequence) start end meets) xs) j (Gives none) ≡ Gives (some (getD xs j (pos 0))))
+      ↔ HoldsBetween (p .sequence) start end (allLower lows k) (allUpper ups k) (getD xs j (pos 0))
+  each-alone = each (alone (p .sequence) start end meets) (HoldsBetween (p .sequence) start end (allLower lows k) (allUpper ups k))
+      (alone-exactly-if (p .sequence) start end meets (run-rises p k ks (newFilter (fresh start end) lows ups) all-accepted))
 
   -- With a lower bound: where all calls are seeks, of x1 ≤ x2 ≤ .., each is answered with itself exactly if it is in the window and meets every bound.
   pub each-given-exactly-if : (xs : List ℤ) → (counts (allLower lows k) (k .move) ∷ moves ks) ≡ map Seek xs → ascending xs ≡ true → (j : ℕ) → j < length xs
       → (getD (answers p start end lows ups k ks) j (Gives none) ≡ Gives (some (getD xs j (pos 0))))
       ↔ HoldsBetween (p .sequence) start end (allLower lows k) (allUpper ups k) (getD xs j (pos 0))
-  each-given-exactly-if xs h a j l =
-      rw (run-is (map Seek xs) h ∙ seeks-alone (p .sequence) start end meets xs a)
-      (each (alone (p .sequence) start end meets) (HoldsBetween (p .sequence) start end (allLower lows k) (allUpper ups k)) alone-is xs j l)
+  each-given-exactly-if xs h a j l = rw (run-is (map Seek xs) h ∙ seeks-alone (p .sequence) start end meets xs a) (each-alone xs j l)
 
   -- A first call that is a next, or counts as one since there is no lower bound: the same holds of the seeks after it.
   pub each-later-given-exactly-if : (xs : List ℤ) → counts (allLower lows k) (k .move) ≡ Next → moves ks ≡ map Seek xs → ascending xs ≡ true → (j : ℕ) → j < length xs
       → (getD (answers p start end lows ups k ks) (suc j) (Gives none) ≡ Gives (some (getD xs j (pos 0))))
       ↔ HoldsBetween (p .sequence) start end (allLower lows k) (allUpper ups k) (getD xs j (pos 0))
   each-later-given-exactly-if xs n h a j l =
-      rw (run-is (Next ∷ map Seek xs) (rw (n, h)) ∙ seeks-after-next (p .sequence) start end meets xs a)
-      (each (alone (p .sequence) start end meets) (HoldsBetween (p .sequence) start end (allLower lows k) (allUpper ups k)) alone-is xs j l)
+      rw (run-is (Next ∷ map Seek xs) (rw (n, h)) ∙ seeks-after-next (p .sequence) start end meets xs a) (each-alone xs j l)
 
 -- The same with constant bounds alone: a window that rises, and calls with no variable bound; all of them are accepted.
 module _ (p : Source) (start end : ℕ) (rising : risingWindow p start end ≡ true) (k : Call) (ks : List Call) (constants : every constant (k ∷ ks) ≡ true) where
   first : constant k ≡ true
-  first = first-constant p start end rising k ks constants
+  unfolding every
+  first = and-left (constant k) (every constant ks) constants
 
   all-accepted : (lows ups : List Bound) → every accepted (answers p start end lows ups k ks) ≡ true
-  all-accepted = constant-accepted p start end rising k ks constants
+  all-accepted lows ups = constant-accepted p start end rising lows ups k ks constants
 
   -- with a lower bound
   pub each-between-exactly-if : (b : Bound) (bs ups : List Bound) → tied ups ≡ false

@@ -1,8 +1,8 @@
 -- What a folded bound says: `lower-all`, `upper-all` and `upper-untied`. Assumes nothing.
 use mathlib.Core.Path.{_≡_, refl, sym, ap, _∙_}
-use mathlib.Core.Bool.{Bool, true, false, cond, not, _&&_, _||_, false≢true}
+use mathlib.Core.Bool.{Bool, true, false, cond, not, _&&_, _||_}
 use mathlib.Core.List.{List, [], _∷_, _++_}
-use mathlib.Core.Logic.{_⊎_, inl, inr}
+use mathlib.Core.Logic.{_⊎_, inl, inr, _↔_, Iff·rfl}
 use lib.IntN.{ℤ}
 use lib.Signed.{ltZ}
 use Rattle.ranges.specs.Ranges.{every, someOf}
@@ -10,56 +10,44 @@ use Rattle.ranges.proofs.Bools.{either, clash, same, and-left, and-right, and-b
 use Rattle.ranges.proofs.Order.{lt-self, lt-same, lt-not, lt-le, le-lt, lt-trans}
 use Rattle.loftsplice.specs.declared.filter_interval.Bound.{Bound}
 use Rattle.loftsplice.specs.declared.filter_interval.Limit.the-variants.{To}
-use Rattle.loftsplice.specs.Filter.{isExclusive, less, greater, lesser, fold, folded, greatest, least, meetsLower, meetsUpper, within, listed}
-use Rattle.theorems.specs.Promise.{equal, bothWays, tied}
-use Rattle.theorems.specs.Runs.{above}
+use Rattle.loftsplice.specs.Filter.{isExclusive, less, greater, lesser, fold, folded, greatest, least, meetsLower, meetsUpper, within, listed, above}
+use Rattle.theorems.specs.Demand3.{equal, bothWays, tied}
+use Rattle.theorems.proofs.Reading.{reading, both-on}
 
 -- ---- one bound
 
-module _ (v : ℤ) (b : Bound) where
-  lower-ge : meetsLower v b ≡ true → ltZ v (b .value) ≡ false
-  unfolding meetsLower
-  lower-ge h = kinds (isExclusive (b .boundary)) h
-    where
-      kinds : (t : Bool) → cond t (ltZ (b .value) v) (not (ltZ v (b .value))) ≡ true → ltZ v (b .value) ≡ false
-      kinds true h = lt-not (b .value) v h
-      kinds false h = not-no (ltZ v (b .value)) h
+-- x is up to y, and below it where t is on: what a lower bound asks of its value and v, and an upper bound of v and its value
+abbrev upTo : Bool → ℤ → ℤ → Bool
+upTo t x y = cond t (ltZ x y) (not (ltZ y x))
 
-  lt-lower : ltZ (b .value) v ≡ true → meetsLower v b ≡ true
-  unfolding meetsLower
-  lt-lower l = kinds (isExclusive (b .boundary))
-    where
-      kinds : (t : Bool) → cond t (ltZ (b .value) v) (not (ltZ v (b .value))) ≡ true
-      kinds true = l
-      kinds false = not-yes (ltZ v (b .value)) (lt-not (b .value) v l)
+upto-le : (t : Bool) (x y : ℤ) → upTo t x y ≡ true → ltZ y x ≡ false
+upto-le true x y h = lt-not x y h
+upto-le false x y h = not-no (ltZ y x) h
 
-  upper-le : meetsUpper v b ≡ true → ltZ (b .value) v ≡ false
-  unfolding meetsUpper
-  upper-le h = kinds (isExclusive (b .boundary)) h
-    where
-      kinds : (t : Bool) → cond t (ltZ v (b .value)) (not (ltZ (b .value) v)) ≡ true → ltZ (b .value) v ≡ false
-      kinds true h = lt-not v (b .value) h
-      kinds false h = not-no (ltZ (b .value) v) h
+lt-upto : (t : Bool) (x y : ℤ) → ltZ x y ≡ true → upTo t x y ≡ true
+lt-upto true x y l = l
+lt-upto false x y l = not-yes (ltZ y x) (lt-not x y l)
 
-  lt-upper : ltZ v (b .value) ≡ true → meetsUpper v b ≡ true
-  unfolding meetsUpper
-  lt-upper l = kinds (isExclusive (b .boundary))
-    where
-      kinds : (t : Bool) → cond t (ltZ v (b .value)) (not (ltZ (b .value) v)) ≡ true
-      kinds true = l
-      kinds false = not-yes (ltZ (b .value) v) (lt-not v (b .value) l)
+weaker : (s t : Bool) (x y : ℤ) → (s ≡ true → t ≡ true) → upTo t x y ≡ true → upTo s x y ≡ true
+weaker true t x y f h = rw (f refl) at h
+weaker false t x y f h = not-yes (ltZ y x) (upto-le t x y h)
+
+abbrev strict : Bound → Bool
+strict b = isExclusive (b .boundary)
 
 -- an element above one that meets a lower bound meets it; one below one that meets an upper bound meets it
 pub lower-up : (v w : ℤ) (b : Bound) → ltZ v w ≡ true → meetsLower v b ≡ true → meetsLower w b ≡ true
-lower-up v w b l h = lt-lower w b (le-lt (b .value) v w (lower-ge v b h) l)
+unfolding meetsLower
+lower-up v w b l h = lt-upto (strict b) (b .value) w (le-lt (b .value) v w (upto-le (strict b) (b .value) v h) l)
 
 pub upper-down : (v w : ℤ) (b : Bound) → ltZ v w ≡ true → meetsUpper w b ≡ true → meetsUpper v b ≡ true
-upper-down v w b l h = lt-upper v b (lt-le v w (b .value) l (upper-le w b h))
+unfolding meetsUpper
+upper-down v w b l h = lt-upto (strict b) v (b .value) (lt-le v w (b .value) l (upto-le (strict b) w (b .value) h))
 
 -- ---- the order of bounds: a is not after b
 
 abbrev NotAfter : Bound → Bound → Type 0
-NotAfter a b = (ltZ (a .value) (b .value) ≡ true) ⊎ ((a .value ≡ b .value) × (isExclusive (a .boundary) ≡ true → isExclusive (b .boundary) ≡ true))
+NotAfter a b = (ltZ (a .value) (b .value) ≡ true) ⊎ ((a .value ≡ b .value) × (strict a ≡ true → strict b ≡ true))
 
 itself : (b : Bound) → NotAfter b b
 itself b = inr (refl, λ t. t)
@@ -74,22 +62,22 @@ is-less : (a b : Bound) → less a b ≡ true → NotAfter a b
 unfolding less
 is-less a b h =
     let over = not (ltZ (b .value) (a .value)) in
-    let kinds = not (isExclusive (a .boundary)) && isExclusive (b .boundary) in
+    let kinds = not (strict a) && strict b in
     either (ltZ (a .value) (b .value)) inl
     (λ e. let g : (over && kinds) ≡ true = rw e at h in inr (
       lt-same (a .value) (b .value) e (not-no (ltZ (b .value) (a .value)) (and-left over kinds g)),
-      λ _. and-right (not (isExclusive (a .boundary))) (isExclusive (b .boundary)) (and-right over kinds g),
+      λ _. and-right (not (strict a)) (strict b) (and-right over kinds g),
     ))
 
 not-less : (a b : Bound) → less b a ≡ false → NotAfter a b
 unfolding less
 not-less a b h =
     let under = not (ltZ (a .value) (b .value)) in
-    let other = not (isExclusive (b .boundary)) && isExclusive (a .boundary) in
+    let other = not (strict b) && strict a in
     either (ltZ (a .value) (b .value)) inl
     (λ e. let g : other ≡ false = rw e at (or-right (ltZ (b .value) (a .value)) (under && other) h) in inr (
       lt-same (a .value) (b .value) e (or-left (ltZ (b .value) (a .value)) (under && other) h),
-      kinds (isExclusive (b .boundary)) (isExclusive (a .boundary)) g,
+      kinds (strict b) (strict a) g,
     ))
   where
     kinds : (t s : Bool) → (not t && s) ≡ false → s ≡ true → t ≡ true
@@ -100,14 +88,8 @@ not-less a b h =
 
 lower-covers : (v : ℤ) (a b : Bound) → NotAfter a b → meetsLower v b ≡ true → meetsLower v a ≡ true
 unfolding meetsLower
-lower-covers v a b (inl l) h = lt-lower v a (lt-le (a .value) (b .value) v l (lower-ge v b h))
-lower-covers v a b (inr e) h = rw (e .0) (kinds (isExclusive (a .boundary)) (isExclusive (b .boundary)) (b .value) (e .1) h)
-  where
-    kinds : (s t : Bool) (x : ℤ) → (s ≡ true → t ≡ true) → cond t (ltZ x v) (not (ltZ v x)) ≡ true → cond s (ltZ x v) (not (ltZ v x)) ≡ true
-    kinds false false x f h = h
-    kinds false true x f h = not-yes (ltZ v x) (lt-not x v h)
-    kinds true false x f h = absurd (false≢true (f refl))
-    kinds true true x f h = h
+lower-covers v a b (inl l) h = lt-upto (strict a) (a .value) v (lt-le (a .value) (b .value) v l (upto-le (strict b) (b .value) v h))
+lower-covers v a b (inr e) h = rw (e .0) (weaker (strict a) (strict b) (b .value) v (e .1) h)
 
 pub lower-two : (v : ℤ) (a b : Bound) → meetsLower v (greater a b) ≡ (meetsLower v a && meetsLower v b)
 lower-two v a b = either (less a b)
@@ -160,22 +142,18 @@ least-first b (y ∷ ys) x (inr (inr i)) = least-first (lesser b y) ys x (inr i)
 record Tie (v : ℤ) (a b : Bound) : Type 0 where
   left : a .value ≡ v
   right : b .value ≡ v
-  includes : isExclusive (a .boundary) ≡ false
-  excludes : isExclusive (b .boundary) ≡ true
+  includes : strict a ≡ false
+  excludes : strict b ≡ true
 
 upper-tie : (v : ℤ) (a b : Bound) → NotAfter a b → meetsUpper v a ≡ true → meetsUpper v b ≡ false → Tie v a b
 unfolding meetsUpper
-upper-tie v a b (inl l) h g = clash (lt-upper v b (le-lt v (a .value) (b .value) (upper-le v a h) l)) g
-upper-tie v a b (inr e) h g =
-    let t = kinds (isExclusive (a .boundary)) (isExclusive (b .boundary)) (b .value) (e .1) (rw (e .0) at h) g in
-    record { left = e .0 ∙ t .0; right = t .0; includes = t .1; excludes = t .2 }
+upper-tie v a b (inl l) h g = clash (lt-upto (strict b) v (b .value) (le-lt v (a .value) (b .value) (upto-le (strict a) v (a .value) h) l)) g
+upper-tie v a b (inr e) h g = kinds (strict a) (strict b) refl refl (e .1) (rw (e .0) at h) g
   where
-    kinds : (s t : Bool) (x : ℤ) → (s ≡ true → t ≡ true) → cond s (ltZ v x) (not (ltZ x v)) ≡ true → cond t (ltZ v x) (not (ltZ x v)) ≡ false
-        → (x ≡ v) × (s ≡ false) × (t ≡ true)
-    kinds false false x f h g = clash h g
-    kinds false true x f h g = (lt-same x v (not-no (ltZ x v) h) g, refl, refl)
-    kinds true false x f h g = absurd (false≢true (f refl))
-    kinds true true x f h g = clash h g
+    kinds : (s t : Bool) → strict a ≡ s → strict b ≡ t → (s ≡ true → t ≡ true) → upTo s v (b .value) ≡ true → upTo t v (b .value) ≡ false → Tie v a b
+    kinds true t i j f h g = clash h (rw (f refl) at g)
+    kinds false false i j f h g = clash h g
+    kinds false true i j f h g = let same = lt-same (b .value) v (not-no (ltZ (b .value) v) h) g in record { left = e .0 ∙ same; right = same; includes = i; excludes = j }
 
 pub equal-is : (a b : ℤ) → equal a b ≡ true → a ≡ b
 equal-is a b h = lt-same a b (not-no (ltZ a b) (and-left (not (ltZ a b)) (not (ltZ b a)) h)) (not-no (ltZ b a) (and-right (not (ltZ a b)) (not (ltZ b a)) h))
@@ -186,47 +164,44 @@ module _ (ups : List Bound) (v : ℤ) where
   low = every (λ b. not (ltZ (b .value) v)) ups
 
   abbrev as-inclusive : Bound → Bool
-  as-inclusive b = equal (b .value) v && not (isExclusive (b .boundary))
+  as-inclusive b = equal (b .value) v && not (strict b)
 
   abbrev as-exclusive : Bound → Bool
-  as-exclusive b = equal (b .value) v && isExclusive (b .boundary)
+  as-exclusive b = equal (b .value) v && strict b
+
+  both-parts : (bothWays ups v ≡ true) ↔ ((low ≡ true) × (someOf as-inclusive ups ≡ true) × (someOf as-exclusive ups ≡ true))
+  unfolding bothWays
+  both-parts = simp reading Iff·rfl
 
   both-made : (a b : Bound) → In a ups → In b ups → Tie v a b → ((x : Bound) → In x ups → NotAfter a x) → bothWays ups v ≡ true
-  unfolding bothWays
-  both-made a b ia ib t first =
-      and-both (low && someOf as-inclusive ups) (someOf as-exclusive ups)
-      (and-both low (someOf as-inclusive ups) (at-every (λ x. not (ltZ (x .value) v)) ups (λ x i. under x (first x i)))
-      (at-some as-inclusive ups a (rw (t .left, lt-self v, t .includes)) ia))
-      (at-some as-exclusive ups b (rw (t .right, lt-self v, t .excludes)) ib)
+  both-made a b ia ib t first = both-parts .1 (
+    at-every (λ x. not (ltZ (x .value) v)) ups (λ x i. under x (first x i)),
+    at-some as-inclusive ups a (rw (t .left, lt-self v, t .includes)) ia,
+    at-some as-exclusive ups b (rw (t .right, lt-self v, t .excludes)) ib,
+  )
     where
       under : (x : Bound) → NotAfter a x → not (ltZ (x .value) v) ≡ true
       under x (inl l) = not-yes (ltZ (x .value) v) (lt-not v (x .value) (rw (t .left) at l))
       under x (inr e) = rw (sym (e .0) ∙ t .left, lt-self v)
 
   -- the inclusive bound
-  both-has : bothWays ups v ≡ true → (a : Bound) × In a ups × (a .value ≡ v) × (isExclusive (a .boundary) ≡ false)
-  unfolding bothWays
+  both-has : bothWays ups v ≡ true → (a : Bound) × In a ups × (a .value ≡ v) × (strict a ≡ false)
   both-has h =
-      let w = some-at as-inclusive ups (and-right low (someOf as-inclusive ups) (and-left (low && someOf as-inclusive ups) (someOf as-exclusive ups) h)) in (
-        w .0,
-        w .1,
-        equal-is (w .0 .value) v (and-left (equal (w .0 .value) v) (not (isExclusive (w .0 .boundary))) (w .2)),
-        not-no (isExclusive (w .0 .boundary)) (and-right (equal (w .0 .value) v) (not (isExclusive (w .0 .boundary))) (w .2)),
-      )
+      let w = some-at as-inclusive ups (both-parts .0 h .1) in
+      let is = both-on (equal (w .0 .value) v) (not (strict (w .0))) .0 (w .2) in
+      (w .0, w .1, equal-is (w .0 .value) v (is .0), not-no (strict (w .0)) (is .1))
 
   both-low : bothWays ups v ≡ true → (b : Bound) → In b ups → ltZ (b .value) v ≡ false
-  unfolding bothWays
-  both-low h b i = not-no (ltZ (b .value) v) (every-at (λ x. not (ltZ (x .value) v)) ups b
-      (and-left low (someOf as-inclusive ups) (and-left (low && someOf as-inclusive ups) (someOf as-exclusive ups) h)) i)
+  both-low h b i = not-no (ltZ (b .value) v) (every-at (λ x. not (ltZ (x .value) v)) ups b (both-parts .0 h .0) i)
 
   -- so the least of all, which is not after it, is met
   both-met : (m : Bound) → In m ups → ((x : Bound) → In x ups → NotAfter m x) → bothWays ups v ≡ true → meetsUpper v m ≡ true
   unfolding meetsUpper
   both-met m i first h = let w = both-has h in at (w .0) (w .2) (w .3) (first (w .0) (w .1))
     where
-      at : (a : Bound) → a .value ≡ v → isExclusive (a .boundary) ≡ false → NotAfter m a → meetsUpper v m ≡ true
+      at : (a : Bound) → a .value ≡ v → strict a ≡ false → NotAfter m a → meetsUpper v m ≡ true
       at a e x (inl l) = clash (rw e at l) (both-low h m i)
-      at a e x (inr n) = either (isExclusive (m .boundary)) (λ t. clash (n .1 t) x) (λ t. rw (t, n .0 ∙ e, lt-self v))
+      at a e x (inr n) = either (strict m) (λ t. clash (n .1 t) x) (λ t. rw (t, n .0 ∙ e, lt-self v))
 
 -- The folded upper bound is met exactly if every upper bound is, or v is the least upper value and given both ways.
 pub upper-all : (ups : List Bound) (v : ℤ) → within (least ups) v ≡ (every (meetsUpper v) ups || bothWays ups v)

@@ -1,9 +1,9 @@
 -- Columns and windows: each index lies in one run, every element fits, short windows rise. Assumes nothing.
 use Prim.Native.Nat.{ℕ, zero, suc, _-_, _<_, _≤_}
 use mathlib.Core.Path.{_≡_, sym, _∙_}
-use mathlib.Core.Bool.{Bool, true, false, cond, _&&_}
+use mathlib.Core.Bool.{Bool, true, false, cond}
 use mathlib.Core.List.{List, [], _∷_}
-use mathlib.Core.Logic.{_↔_, ⊎-elim}
+use mathlib.Core.Logic.{_↔_, ⊎-elim, Iff·rfl}
 use mathlib.Core.Option.{none}
 use native.Mathlib.Omega.{arith}
 use native.Mathlib.Nat.{le-refl}
@@ -25,11 +25,12 @@ use Rattle.loftsplice.specs.declared.scan.State.the-variants.{Fresh, Ended}
 use Rattle.loftsplice.specs.Scan.{fresh, put, goTo, nextFrom}
 use Rattle.meaning.proofs.Judging.{passed, sound-first}
 use Rattle.meaning.proofs.Runs.{end-le-before, run-above, run-from, run-there, run-in, run-past}
-use Rattle.meaning.proofs.Soundness.{sound-parts, ends-rise, run-fits}
+use Rattle.meaning.proofs.Soundness.{shape-parts, ends-rise, run-fits}
+use Rattle.theorems.proofs.Reading.{reading}
 
-sound-ends : (c : Column) → sound c ≡ true → endsOk (c .ends) ≡ true
+sound-tests : (c : Column) → (sound c ≡ true) ↔ ((shapeOk c ≡ true) × (endsOk (c .ends) ≡ true) × (reachOk half64 c ≡ true))
 unfolding sound
-sound-ends c ok = and-right (shapeOk c) (endsOk (c .ends)) (and-left (shapeOk c && endsOk (c .ends)) (reachOk half64 c) ok)
+sound-tests c = simp reading Iff·rfl
 
 -- ---- runs
 
@@ -61,7 +62,7 @@ module _ (c : Column) (ok : endsOk (c .ends) ≡ true) where
 pub length-placed : (c : Column) → sound c ≡ true → placeOf c (sizeOf c) ≡ Gives (record { run = runs c; offset = 0 })
 unfolding placeOf tried
 length-placed c ok =
-    let here = length-place c (sound-ends c ok) in
+    let here = length-place c (sound-tests c .0 ok .1) in
     let rest : Said Place = cond (ltb (sizeOf c) (sizeOf c)) (Number 4) (Gives (record { run = runOf (c .ends) (sizeOf c); offset = offsetOf (c .ends) (sizeOf c) })) in
     sym (sound-first c Number rest ok) ∙ rw (le-ltb (sizeOf c) (sizeOf c) (le-refl _), here .1, here .0)
 
@@ -100,8 +101,7 @@ module _ (h : ℕ) (c : Column) (long : length (c .starts) ≡ runs c) (ends : e
 
 -- the elements of a sound column are i64s, if its starts are, as those of a lent array are
 pub elements-fit : (c : Column) → every (fitsIn half64) (c .starts) ≡ true → sound c ≡ true → (i : ℕ) → i < sizeOf c → fitsIn half64 (elementAt c i) ≡ true
-unfolding sound
-elements-fit c starts ok = reach-exactly half64 c (sound-parts c ok .shaped .starts-long) (sound-ends c ok) starts .0 (and-right (shapeOk c && endsOk (c .ends)) (reachOk half64 c) ok)
+elements-fit c starts ok = let is = sound-tests c .0 ok in reach-exactly half64 c (shape-parts c (is .0) .starts-long) (is .1) starts .0 (is .2)
 
 -- ---- the check
 

@@ -1,114 +1,125 @@
--- One call on a filter: it is accepted exactly if it is allowed, and a refused one changes nothing. Assumes nothing.
-use mathlib.Core.Path.{_≡_, refl, sym, ap, _∙_}
-use mathlib.Core.Bool.{Bool, true, false, cond, not, _&&_}
-use mathlib.Core.List.{List, [], _∷_}
+-- The filter's calls: "Given exactly if", a line a call and refusal; what is accepted, what it does, what a refusal leaves. Assumes nothing.
+use Prim.Native.Nat.{ℕ, _<_, _≤_}
+use mathlib.Core.Path.{_≡_, refl, ap}
+use mathlib.Core.Bool.{Bool, true, false, _||_, false≢true}
+use mathlib.Core.Logic.{_↔_, _⊎_, Iff·rfl, Iff·trans}
 use mathlib.Core.Option.{Option}
+use native.Mathlib.Omega.{arith}
+use lib.Dec.{ltb}
 use lib.IntN.{ℤ}
-use Rattle.ranges.specs.Ranges.{every}
-use Rattle.ranges.proofs.Bools.{either, clash, and-left, and-right}
-use Rattle.meaning.specs.Refusals.{Said, Gives, Number, tried}
+use Rattle.ranges.specs.Ranges.{someOf}
+use Rattle.ranges.proofs.Bools.{either, not-yes, not-no}
+use Rattle.meaning.specs.declared.Refusal.{Refusal}
+use Rattle.meaning.specs.declared.Refusal.the-variants.{Order, Bounds as OverBounds, Input as NoInput}
+use Rattle.meaning.specs.Refusals.{Said, Gives, Number, nothing, also}
 use Rattle.meaning.specs.Sequence.{Sequence, Source, rises}
+use Rattle.loftsplice.specs.declared.scan.Scan.{Scan}
 use Rattle.loftsplice.specs.declared.filter_interval.Limit.{Limit}
+use Rattle.loftsplice.specs.declared.filter_interval.Bounds.{Bounds}
 use Rattle.loftsplice.specs.declared.filter_interval.FilterState.{FilterState}
 use Rattle.loftsplice.specs.declared.filter_interval.FilterState.the-variants.{Before, Within, After}
 use Rattle.loftsplice.specs.declared.filter_interval.Filter.{Filter}
 use Rattle.loftsplice.specs.Scan.{Outcome, badScan}
-use Rattle.loftsplice.specs.Filter.{Sifting, Call, accepts, settle, stepFrom, upperOf, lowerOf, raised, arrive, moveScan, tooMany, unread, refuseCall, callOf, filterResetOf}
-use Rattle.theorems.specs.Promise.{answersOf, accepted}
-use Rattle.theorems.specs.Runs.{soundSource, allowed}
-use Rattle.theorems.proofs.ScanCalls.{Verdict, Refused, Passed}
-use Rattle.theorems.proofs.FilterRuns.{steps}
+use Rattle.loftsplice.specs.Filter.{Call, Sifting, bounds, newFilter, accepts, settle, stepFrom, tooMany, unread, onFilter, refuseCall, fitOf, callOf, filterCurrentOf, upperOf, lowerOf, raised, arrive, moveScan}
+use Rattle.theorems.specs.Exact.{earlier, accepted, soundSource, allReadable}
+use Rattle.theorems.proofs.Reading.{reading, either-below}
+use Rattle.theorems.proofs.Exactly.{Speaks, plainly, exact, accepted-exactly, refused-is, accepted-is, OfScan, scan-tests}
+use Rattle.theorems.proofs.ScanCalls.{scan-refuses, scan-accepts}
 
--- ---- what a call does, once it is not refused, is no refusal
+-- ---- making a filter
+
+-- "Making a filter applies 8 alone"
+module _ (s : Scan) (lows ups : Bounds) where
+  abbrev fitTests : Refusal → Bool
+  fitTests = also OverBounds (ltb 16 (lows .count) || ltb 16 (ups .count)) nothing
+
+  -- "over 16 bounds in a list"
+  pub fit-refuses-8 : (fitOf s lows ups ≡ Number 8) ↔ ((16 < lows .count) ⊎ (16 < ups .count))
+  unfolding fitOf someOf earlier
+  fit-refuses-8 = Iff·trans (exact (plainly _) fitTests OverBounds refl) (simp (either-below, reading) Iff·rfl)
+
+  pub fit-accepts : (accepted (fitOf s lows ups) ≡ true) ↔ ((lows .count ≤ 16) × (ups .count ≤ 16))
+  unfolding fitOf
+  fit-accepts = Iff·trans (accepted-exactly (plainly _) fitTests) (simp reading Iff·rfl)
+
+  pub fit-does : accepted (fitOf s lows ups) ≡ true → fitOf s lows ups ≡ Gives (newFilter s (bounds lows) (bounds ups))
+  unfolding fitOf
+  fit-does = accepted-is (plainly _) fitTests
+
+-- ---- what a step says is an answer
 
 settle-accepted : (f : Filter) (up : Limit) (m : Outcome) → accepted (settle f up m .said) ≡ true
 unfolding settle
-settle-accepted f up m = either (accepts up (m .said)) (λ t. rw t (fine (m .said) t)) (λ t. rw t)
+settle-accepted f up m = either (accepts up (m .said)) (λ t. rw t (answers (m .said) t)) (λ t. rw t)
   where
-    fine : (a : Said (Option ℤ)) → accepts up a ≡ true → accepted a ≡ true
-    fine (Gives v) t = refl
-    fine (Number n) t = t
+    answers : (x : Said (Option ℤ)) → accepts up x ≡ true → accepted x ≡ true
+    answers (Gives v) t = refl
+    answers (Number n) t = t
 
-step-accepted : (q : Sequence) (k : Call) (f : Filter) (w : FilterState) → accepted (stepFrom q k f w .said) ≡ true
+step-accepted : (q : Sequence) (k : Call) (f : Filter) (t : FilterState) → accepted (stepFrom q k f t .said) ≡ true
 unfolding stepFrom
 step-accepted q k f Before = settle-accepted f (upperOf f k) (arrive q (raised (k .move) (lowerOf f k)) (f .scan))
 step-accepted q k f (Within up) = settle-accepted f up (moveScan q (k .move) (f .scan))
 step-accepted q k f After = refl
 
-module _ (p : Source) (k : Call) (f : Filter) where
-  -- ---- a call is refused, or is its step
+-- ---- the calls on a filter
 
-  -- the tests in their order: 1, 2, 3, 6, 8, 7, 9
-  abbrev cascade : Bool → Bool → Bool → Bool → Bool → Bool → Bool → Sifting → Sifting
-  cascade a b c d e r u m =
-      cond a (refuseCall f 1) (cond b (refuseCall f 2) (cond c (refuseCall f 3) (cond d (refuseCall f 6) (cond e (refuseCall f 8)
-      (cond (not r) (refuseCall f 7) (cond u (refuseCall f 9) m))))))
+-- 9 INPUT: "Before only"
+pub before-only : (k : Call) (t : FilterState) → (unread k t ≡ true) ↔ ((t ≡ Before) × (allReadable k ≡ false))
+before-only k Before = (λ h. (refl, not-no (allReadable k) h), λ h. not-yes (allReadable k) (h .1))
+before-only k (Within up) = (λ h. absurd (false≢true h), λ h. let e = h .0 in let z : _≡_ {A = ℕ} 0 1 = cc in absurd (omega arith))
+before-only k After = (λ h. absurd (false≢true h), λ h. let e = h .0 in let z : _≡_ {A = ℕ} 0 1 = cc in absurd (omega arith))
 
-  judge : (a b c d e r u : Bool) (m : Sifting) → Verdict (refuseCall f) (cascade a b c d e r u m) m (not a && not b && not c && not d && not e && r && not u)
-  judge true b c d e r u m = Refused 1 refl refl
-  judge false true c d e r u m = Refused 2 refl refl
-  judge false false true d e r u m = Refused 3 refl refl
-  judge false false false true e r u m = Refused 6 refl refl
-  judge false false false false true r u m = Refused 8 refl refl
-  judge false false false false false false u m = Refused 7 refl refl
-  judge false false false false false true true m = Refused 9 refl refl
-  judge false false false false false true false m = Passed refl refl
+module _ (p : Source) (f : Filter) where
+  abbrev bad : Bool
+  bad = badScan (p .sequence) (f .scan)
 
-  abbrev Judged : Type 0
-  Judged = Verdict (refuseCall f) (callOf p k f) (stepFrom (p .sequence) k f (f .state)) (allowed p k f)
+  abbrev rising : Bool
+  rising = rises (p .sequence) (f .scan .start) (f .scan .end)
 
-  verdict : Judged
-  unfolding callOf tried allowed soundSource
-  verdict =
-      judge (p .shape) (p .ends) (p .reach) (badScan (p .sequence) (f .scan)) (tooMany k) (rises (p .sequence) (f .scan .start) (f .scan .end)) (unread k (f .state))
-      (stepFrom (p .sequence) k f (f .state))
+  -- next and seek
+  module _ (k : Call) where
+    calls : Speaks (λ (o : Sifting). o .said) (refuseCall f) (stepFrom (p .sequence) k f (f .state))
+    calls = record { refuses = λ n. refl; accepts = step-accepted (p .sequence) k f (f .state) }
 
-  -- A call on any filter is accepted exactly if it is allowed.
-  pub call-accepted-exactly-if : accepted (callOf p k f .said) ≡ allowed p k f
-  call-accepted-exactly-if = by verdict
-    where
-      by : Judged → accepted (callOf p k f .said) ≡ allowed p k f
-      by (Refused n e t) = ap (λ (m : Sifting). accepted (m .said)) e ∙ sym t
-      by (Passed e t) = ap (λ (m : Sifting). accepted (m .said)) e ∙ step-accepted (p .sequence) k f (f .state) ∙ sym t
+    pub call-refuses : OfScan p (f .scan) (callOf p k f .said)
+    unfolding callOf
+    call-refuses = scan-tests calls (onFilter p k f) p refl refl refl (f .scan) refl
 
-  -- "scan and filter come back as they went in"
-  pub refusal-leaves : accepted (callOf p k f .said) ≡ false → callOf p k f .filter ≡ f
-  refusal-leaves h = by verdict
-    where
-      by : Judged → callOf p k f .filter ≡ f
-      by (Refused n e t) = ap (λ (m : Sifting). m .filter) e
-      by (Passed e t) = clash t (sym call-accepted-exactly-if ∙ h)
+    -- "in any filter state: over 16 bounds in a list, over 8 inputs"
+    pub call-refuses-8 : (callOf p k f .said ≡ Number 8) ↔ ((soundSource p ≡ true) × (bad ≡ false) × (tooMany k ≡ true))
+    unfolding callOf someOf earlier soundSource
+    call-refuses-8 = Iff·trans (exact calls (onFilter p k f) OverBounds refl) (simp reading Iff·rfl)
 
-  -- an accepted call is its step
-  pub opened : accepted (callOf p k f .said) ≡ true → callOf p k f ≡ stepFrom (p .sequence) k f (f .state)
-  opened h = by verdict
-    where
-      by : Judged → callOf p k f ≡ stepFrom (p .sequence) k f (f .state)
-      by (Refused n e t) = clash (sym call-accepted-exactly-if ∙ h) t
-      by (Passed e t) = e
+    -- "filter next or seek .. over a window that doesn't rise"
+    pub call-refuses-7 : (callOf p k f .said ≡ Number 7) ↔ ((soundSource p ≡ true) × (bad ≡ false) × (tooMany k ≡ false) × (rising ≡ false))
+    unfolding callOf someOf earlier soundSource
+    call-refuses-7 = Iff·trans (exact calls (onFilter p k f) Order refl) (simp reading Iff·rfl)
 
-  -- and its scan's window rises
-  call-rises : accepted (callOf p k f .said) ≡ true → rises (p .sequence) (f .scan .start) (f .scan .end) ≡ true
-  unfolding allowed
-  call-rises t =
-      let few = soundSource p && not (badScan (p .sequence) (f .scan)) && not (tooMany k) in
-      let up = rises (p .sequence) (f .scan .start) (f .scan .end) in
-      and-right few up (and-left (few && up) (not (unread k (f .state))) (sym call-accepted-exactly-if ∙ t))
+    -- "Before only: a variable bound names an input that isn't there or has no value"
+    pub call-refuses-9 : (callOf p k f .said ≡ Number 9)
+        ↔ ((soundSource p ≡ true) × (bad ≡ false) × (tooMany k ≡ false) × (rising ≡ true) × ((f .state ≡ Before) × (allReadable k ≡ false)))
+    unfolding callOf someOf earlier soundSource
+    call-refuses-9 = Iff·trans (exact calls (onFilter p k f) NoInput refl) (simp (before-only, reading) Iff·rfl)
 
--- "reset .. does not touch the scan"
-pub reset-leaves-the-scan : (f : Filter) → filterResetOf f .scan ≡ f .scan
-reset-leaves-the-scan f = refl
+    pub call-accepts : (accepted (callOf p k f .said) ≡ true)
+        ↔ ((soundSource p ≡ true) × (bad ≡ false) × (tooMany k ≡ false) × (rising ≡ true) × (unread k (f .state) ≡ false))
+    unfolding callOf soundSource
+    call-accepts = Iff·trans (accepted-exactly calls (onFilter p k f)) (simp reading Iff·rfl)
 
--- a run that is accepted: its scan's window rises, and it is its steps
-pub run-rises : (p : Source) (k : Call) (ks : List Call) (f : Filter) → every accepted (answersOf p f (k ∷ ks)) ≡ true → rises (p .sequence) (f .scan .start) (f .scan .end) ≡ true
-unfolding answersOf every
-run-rises p k ks f h = call-rises p k f (and-left (accepted (callOf p k f .said)) (every accepted (answersOf p (callOf p k f .filter) ks)) h)
+    pub call-does : accepted (callOf p k f .said) ≡ true → callOf p k f ≡ stepFrom (p .sequence) k f (f .state)
+    unfolding callOf
+    call-does = accepted-is calls (onFilter p k f)
 
-pub opened-run : (p : Source) (ks : List Call) (f : Filter) → every accepted (answersOf p f ks) ≡ true → answersOf p f ks ≡ steps (p .sequence) f ks
-unfolding answersOf steps every
-opened-run p [] f h = refl
-opened-run p (k ∷ ks) f h =
-    let a = and-left (accepted (callOf p k f .said)) (every accepted (answersOf p (callOf p k f .filter) ks)) h in
-    let rest : answersOf p (callOf p k f .filter) ks ≡ steps (p .sequence) (callOf p k f .filter) ks
-    = opened-run p ks (callOf p k f .filter) (and-right (accepted (callOf p k f .said)) (every accepted (answersOf p (callOf p k f .filter) ks)) h) in
-    rw rest (rw (opened p k f a))
+    -- "scan and filter come back as they went in"
+    pub call-keeps : accepted (callOf p k f .said) ≡ false → callOf p k f .filter ≡ f
+    unfolding callOf
+    call-keeps h = ap (λ (o : Sifting). o .filter) (refused-is calls (onFilter p k f) h .1)
+
+  pub filter-current-refuses : OfScan p (f .scan) (filterCurrentOf p f)
+  unfolding filterCurrentOf
+  filter-current-refuses = scan-refuses p (f .scan) (plainly _)
+
+  pub filter-current-accepts : (accepted (filterCurrentOf p f) ≡ true) ↔ ((soundSource p ≡ true) × (bad ≡ false))
+  unfolding filterCurrentOf
+  filter-current-accepts = scan-accepts p (f .scan) (plainly _)

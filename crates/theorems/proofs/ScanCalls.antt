@@ -1,142 +1,215 @@
--- Next and seek on a scan: which are accepted, and that no scan that is handed back is ever refused. Assumes nothing.
-use Prim.Native.Nat.{ℕ, suc, _≤_, _<_}
-use mathlib.Core.Path.{_≡_, refl, sym, ap, _∙_}
-use mathlib.Core.Bool.{Bool, true, false, cond, not, _&&_, _||_}
-use native.Mathlib.Omega.{arith}
-use borrow.Author.Tests.{le-leb, lt-ltb, ltb-true}
+-- The scan's calls: "Given exactly if", a line a call and refusal; what is accepted, what it does, what a refusal leaves. Assumes nothing.
+use Prim.Native.Nat.{ℕ, suc, _<_, _≤_}
+use mathlib.Core.Path.{_≡_, refl, ap}
+use mathlib.Core.Bool.{Bool, true, false}
+use mathlib.Core.Logic.{_↔_, Iff·rfl, Iff·trans}
+use mathlib.Core.Option.{none}
 use lib.Dec.{ltb}
-use lib.Signed.{ltZ}
-use Rattle.ranges.proofs.Bools.{either, clash, or-false}
-use Rattle.ranges.proofs.Spans.{first-known}
-use Rattle.meaning.specs.Refusals.{tried}
-use Rattle.meaning.specs.Sequence.{Sequence, Source, rises, firstNotBelow}
+use lib.IntN.{ℤ}
+use Rattle.ranges.specs.Ranges.{someOf}
+use Rattle.ranges.proofs.Bools.{either}
+use Rattle.meaning.specs.declared.Refusal.{Refusal}
+use Rattle.meaning.specs.declared.Refusal.the-variants.{Window, Order}
+use Rattle.meaning.specs.Refusals.{Said, Gives, Number, also, judged}
+use Rattle.meaning.specs.Sequence.{Sequence, Source, onSource, rises, firstNotBelow}
 use Rattle.loftsplice.specs.declared.scan.State.{State}
 use Rattle.loftsplice.specs.declared.scan.State.the-variants.{Fresh, At, Ended}
 use Rattle.loftsplice.specs.declared.scan.Scan.{Scan}
-use Rattle.loftsplice.specs.Scan.{Outcome, fresh, goTo, nextFrom, seekFrom, outside, badScan, refuse, nextOf, seekOf}
+use Rattle.loftsplice.specs.Scan.{Outcome, fresh, goTo, nextFrom, seekFrom, elementIn, indexIn, badScan, onScan, onRising, refuse, newOf, nextOf, seekOf, narrowOf, resetOf, currentOf, posOf}
 use Rattle.loftsplice.specs.Filter.{Move, Next, Seek, moveScan}
-use Rattle.theorems.specs.Promise.{accepted}
-use Rattle.theorems.specs.Runs.{scanMove, soundSource, allowedScan}
+use Rattle.theorems.specs.Exact.{earlier, accepted, soundSource}
+use Rattle.theorems.specs.Runs.{scanMove, allowedScan}
+use Rattle.theorems.proofs.Reading.{reading, same-test}
+use Rattle.theorems.proofs.Exactly.{Speaks, plainly, says, exact, accepted-exactly, refused-is, accepted-is, OfSource, OfScan, source-tests, scan-tests}
 
--- ---- what a move does, once it is not refused, is no refusal
+-- ---- making a scan
 
-go-accepted : (q : Sequence) (s : Scan) (j : ℕ) → accepted (goTo q s j .said) ≡ true
+module _ (p : Source) where
+  pub new-refuses : OfSource p (newOf p)
+  unfolding newOf
+  new-refuses = source-tests (plainly _) (onSource p) p refl refl refl
+
+  pub new-accepts : (accepted (newOf p) ≡ true) ↔ (soundSource p ≡ true)
+  unfolding newOf soundSource
+  new-accepts = Iff·trans (accepted-exactly (plainly _) (onSource p)) (simp reading Iff·rfl)
+
+  pub new-does : accepted (newOf p) ≡ true → newOf p ≡ Gives (fresh 0 (p .sequence .size))
+  unfolding newOf
+  new-does = accepted-is (plainly _) (onSource p)
+
+-- ---- what a move says is an answer
+
+to-accepted : (q : Sequence) (s : Scan) (i : ℕ) → accepted (goTo q s i .said) ≡ true
 unfolding goTo
-go-accepted q s j = either (ltb j (s .end)) (λ t. rw t) (λ t. rw t)
+to-accepted q s i = either (ltb i (s .end)) (λ t. rw t) (λ t. rw t)
 
-move-accepted : (q : Sequence) (m : Move) (s : Scan) → accepted (moveScan q m s .said) ≡ true
-unfolding nextFrom seekFrom
-move-accepted q Next s = go (s .state)
-  where
-    go : (t : State) → accepted (nextFrom q s t .said) ≡ true
-    go Fresh = go-accepted q s (s .start)
-    go (At i) = go-accepted q s (suc i)
-    go Ended = refl
-move-accepted q (Seek x) s = go (s .state)
-  where
-    go : (t : State) → accepted (seekFrom q x s t .said) ≡ true
-    go Fresh = go-accepted q s (firstNotBelow q x (s .start) (s .end))
-    go (At i) = go-accepted q s (firstNotBelow q x i (s .end))
-    go Ended = refl
+next-accepted : (q : Sequence) (s : Scan) (t : State) → accepted (nextFrom q s t .said) ≡ true
+unfolding nextFrom
+next-accepted q s Fresh = to-accepted q s (s .start)
+next-accepted q s (At i) = to-accepted q s (suc i)
+next-accepted q s Ended = refl
 
--- ---- a move is refused, or is done
+seek-accepted : (q : Sequence) (x : ℤ) (s : Scan) (t : State) → accepted (seekFrom q x s t .said) ≡ true
+unfolding seekFrom
+seek-accepted q x s Fresh = to-accepted q s (firstNotBelow q x (s .start) (s .end))
+seek-accepted q x s (At i) = to-accepted q s (firstNotBelow q x i (s .end))
+seek-accepted q x s Ended = refl
 
--- a call of which t is said to be the condition: it is refused, or done
-pub data Verdict {A : Type 0} (refuses : ℕ → A) (o done : A) (t : Bool) : Type 0 where
-  Refused : (n : ℕ) → o ≡ refuses n → t ≡ false → Verdict refuses o done t
-  Passed : o ≡ done → t ≡ true → Verdict refuses o done t
+-- ---- the calls on a scan
 
 module _ (p : Source) (s : Scan) where
-  -- the tests in their order: 1, 2, 3, 6, and for a seek 7
-  abbrev cascade : Bool → Bool → Bool → Bool → Bool → Outcome → Outcome
-  cascade a b c d r o = cond a (refuse s 1) (cond b (refuse s 2) (cond c (refuse s 3) (cond d (refuse s 6) (cond (not r) (refuse s 7) o))))
+  abbrev bad : Bool
+  bad = badScan (p .sequence) s
 
-  judge : (a b c d r : Bool) (o : Outcome) → Verdict (refuse s) (cascade a b c d r o) o (not a && not b && not c && not d && r)
-  judge true b c d r o = Refused 1 refl refl
-  judge false true c d r o = Refused 2 refl refl
-  judge false false true d r o = Refused 3 refl refl
-  judge false false false true r o = Refused 6 refl refl
-  judge false false false false false o = Refused 7 refl refl
-  judge false false false false true o = Passed refl refl
+  abbrev rising : Bool
+  rising = rises (p .sequence) (s .start) (s .end)
 
-  verdict : (m : Move) → Verdict (refuse s) (scanMove p m s) (moveScan (p .sequence) m s) (allowedScan p m s)
-  unfolding nextOf seekOf tried allowedScan soundSource
-  verdict Next = judge (p .shape) (p .ends) (p .reach) (badScan (p .sequence) s) true (nextFrom (p .sequence) s (s .state))
-  verdict (Seek x) = judge (p .shape) (p .ends) (p .reach) (badScan (p .sequence) s) (rises (p .sequence) (s .start) (s .end)) (seekFrom (p .sequence) x s (s .state))
+  -- a call that applies 1, 2, 3 and 6 alone
+  module _ {A B : Type 0} {said : A → Said B} {refuses : ℕ → A} {answer : A} (call : Speaks said refuses answer) where
+    pub scan-refuses : OfScan p s (says call (onScan p s))
+    scan-refuses = scan-tests call (onScan p s) p refl refl refl s refl
 
-  module _ (m : Move) where
-    -- A next or seek on any scan is accepted exactly if it is allowed.
-    pub move-accepted-exactly-if : accepted (scanMove p m s .said) ≡ allowedScan p m s
-    move-accepted-exactly-if = by (verdict m)
-      where
-        by : Verdict (refuse s) (scanMove p m s) (moveScan (p .sequence) m s) (allowedScan p m s) → accepted (scanMove p m s .said) ≡ allowedScan p m s
-        by (Refused n e t) = ap (λ (o : Outcome). accepted (o .said)) e ∙ sym t
-        by (Passed e t) = ap (λ (o : Outcome). accepted (o .said)) e ∙ move-accepted (p .sequence) m s ∙ sym t
+    pub scan-accepts : (accepted (says call (onScan p s)) ≡ true) ↔ ((soundSource p ≡ true) × (bad ≡ false))
+    unfolding soundSource
+    scan-accepts = Iff·trans (accepted-exactly call (onScan p s)) (simp reading Iff·rfl)
 
-    -- "scan .. come back as they went in"
-    pub refused-move-leaves : accepted (scanMove p m s .said) ≡ false → scanMove p m s .scan ≡ s
-    refused-move-leaves h = by (verdict m)
-      where
-        by : Verdict (refuse s) (scanMove p m s) (moveScan (p .sequence) m s) (allowedScan p m s) → scanMove p m s .scan ≡ s
-        by (Refused n e t) = ap (λ (o : Outcome). o .scan) e
-        by (Passed e t) = clash t (sym move-accepted-exactly-if ∙ h)
+  -- a call that hands its scan back: "scan .. come back as they went in"
+  abbrev Handing : Outcome → Type 0
+  Handing m = Speaks (λ (o : Outcome). o .said) (refuse s) m
 
-    -- an accepted move is done
-    pub opened-move : accepted (scanMove p m s .said) ≡ true → scanMove p m s ≡ moveScan (p .sequence) m s
-    opened-move h = by (verdict m)
-      where
-        by : Verdict (refuse s) (scanMove p m s) (moveScan (p .sequence) m s) (allowedScan p m s) → scanMove p m s ≡ moveScan (p .sequence) m s
-        by (Refused n e t) = clash (sym move-accepted-exactly-if ∙ h) t
-        by (Passed e t) = e
+  handing : {m : Outcome} → accepted (m .said) ≡ true → Handing m
+  handing a = record { refuses = λ n. refl; accepts = a }
 
--- ---- no scan that is handed back is ever refused
+  scan-keeps : {m : Outcome} → Handing m → (f : Refusal → Bool) → accepted (judged (refuse s) f m .said) ≡ false → judged (refuse s) f m .scan ≡ s
+  scan-keeps call f h = ap (λ (o : Outcome). o .scan) (refused-is call f h .1)
 
-abbrev pub scanAt : ℕ → ℕ → State → Scan
-scanAt s e t = record { start = s; end = e; state = t }
+  nexts : Handing (nextFrom (p .sequence) s (s .state))
+  nexts = handing (next-accepted (p .sequence) s (s .state))
 
--- a scan of the window s..e, fresh, ended or at an index of it
-abbrev Inside : ℕ → ℕ → State → Type 0
-Inside s e Fresh = Unit {0}
-Inside s e (At i) = (s ≤ i) × (i < e)
-Inside s e Ended = Unit {0}
+  pub next-refuses : OfScan p s (nextOf p s .said)
+  unfolding nextOf
+  next-refuses = scan-refuses nexts
 
-pub record Good (s e : ℕ) (c : Scan) : Type 0 where
-  pub start : c .start ≡ s
-  pub end : c .end ≡ e
-  pub inside : Inside s e (c .state)
+  pub next-accepts : (accepted (nextOf p s .said) ≡ true) ↔ ((soundSource p ≡ true) × (bad ≡ false))
+  unfolding nextOf
+  next-accepts = scan-accepts nexts
 
-module _ (q : Sequence) (s e : ℕ) where
-  pub fresh-good : Good s e (fresh s e)
-  fresh-good = record { start = refl; end = refl; inside = tt }
+  pub next-does : accepted (nextOf p s .said) ≡ true → nextOf p s ≡ nextFrom (p .sequence) s (s .state)
+  unfolding nextOf
+  next-does = accepted-is nexts (onScan p s)
 
-  go-good : (c : Scan) (j : ℕ) → Good s e c → s ≤ j → Good s e (goTo q c j .scan)
-  unfolding goTo
-  go-good c j g l =
-      either (ltb j (c .end))
-      (λ t. rw t (record { start = g .start; end = g .end; inside = (l, omega (arith, ltb-true j (c .end) t, g .end)) }))
-      (λ t. rw t (record { start = g .start; end = g .end; inside = tt }))
+  pub next-keeps : accepted (nextOf p s .said) ≡ false → nextOf p s .scan ≡ s
+  unfolding nextOf
+  next-keeps = scan-keeps nexts (onScan p s)
 
-  pub move-good : (m : Move) (c : Scan) → Good s e c → Good s e (moveScan q m c .scan)
-  unfolding nextFrom seekFrom
-  move-good Next c g = by (c .state) (g .inside)
-    where
-      by : (t : State) → Inside s e t → Good s e (nextFrom q c t .scan)
-      by Fresh i = go-good c (c .start) g (omega (arith, g .start))
-      by (At j) i = go-good c (suc j) g (omega arith)
-      by Ended i = record { start = g .start; end = g .end; inside = tt }
-  move-good (Seek x) c g = by (c .state) (g .inside)
-    where
-      by : (t : State) → Inside s e t → Good s e (seekFrom q x c t .scan)
-      by Fresh i = go-good c (firstNotBelow q x (c .start) (c .end)) g (omega (arith, g .start, first-known (λ k. not (ltZ (q .at k) x)) (c .start) (c .end) .from))
-      by (At j) i = go-good c (firstNotBelow q x j (c .end)) g (omega (arith, first-known (λ k. not (ltZ (q .at k) x)) j (c .end) .from))
-      by Ended i = record { start = g .start; end = g .end; inside = tt }
+  module _ (target : ℤ) where
+    seeks : Handing (seekFrom (p .sequence) target s (s .state))
+    seeks = handing (seek-accepted (p .sequence) target s (s .state))
 
-  -- such a scan is bad exactly if its window ends above the length
-  pub good-bad : (c : Scan) → Good s e c → badScan q c ≡ ltb (q .size) e
-  unfolding badScan
-  good-bad c g = ap (λ t. ltb (q .size) (c .end) || t) (by (c .state) (g .inside)) ∙ or-false (ltb (q .size) (c .end)) ∙ ap (λ x. ltb (q .size) x) (g .end)
-    where
-      by : (t : State) → Inside s e t → outside c t ≡ false
-      by Fresh i = refl
-      by (At j) i = rw (le-leb (c .start) j (omega (arith, g .start)), lt-ltb j (c .end) (omega (arith, g .end)))
-      by Ended i = refl
+    pub seek-refuses : OfScan p s (seekOf p target s .said)
+    unfolding seekOf
+    seek-refuses = scan-tests seeks (onRising p s) p refl refl refl s refl
+
+    -- "scan seek .. over a window that doesn't rise"
+    pub seek-refuses-7 : (seekOf p target s .said ≡ Number 7) ↔ ((soundSource p ≡ true) × (bad ≡ false) × (rising ≡ false))
+    unfolding seekOf someOf earlier soundSource
+    seek-refuses-7 = Iff·trans (exact seeks (onRising p s) Order refl) (simp reading Iff·rfl)
+
+    pub seek-accepts : (accepted (seekOf p target s .said) ≡ true) ↔ ((soundSource p ≡ true) × (bad ≡ false) × (rising ≡ true))
+    unfolding seekOf soundSource
+    seek-accepts = Iff·trans (accepted-exactly seeks (onRising p s)) (simp reading Iff·rfl)
+
+    pub seek-does : accepted (seekOf p target s .said) ≡ true → seekOf p target s ≡ seekFrom (p .sequence) target s (s .state)
+    unfolding seekOf
+    seek-does = accepted-is seeks (onRising p s)
+
+    pub seek-keeps : accepted (seekOf p target s .said) ≡ false → seekOf p target s .scan ≡ s
+    unfolding seekOf
+    seek-keeps = scan-keeps seeks (onRising p s)
+
+  module _ (start end : ℕ) where
+    abbrev narrowTests : Refusal → Bool
+    narrowTests = also Window (ltb (p .sequence .size) end) (onScan p s)
+
+    narrows : Handing (record { scan = fresh start end; said = Gives none })
+    narrows = handing refl
+
+    pub narrow-refuses : OfScan p s (narrowOf p start end s .said)
+    unfolding narrowOf
+    narrow-refuses = scan-tests narrows narrowTests p refl refl refl s refl
+
+    -- "window end above length"
+    pub narrow-refuses-5 : (narrowOf p start end s .said ≡ Number 5) ↔ ((soundSource p ≡ true) × (bad ≡ false) × (p .sequence .size < end))
+    unfolding narrowOf someOf earlier soundSource
+    narrow-refuses-5 = Iff·trans (exact narrows narrowTests Window refl) (simp reading Iff·rfl)
+
+    pub narrow-accepts : (accepted (narrowOf p start end s .said) ≡ true) ↔ ((soundSource p ≡ true) × (bad ≡ false) × (end ≤ p .sequence .size))
+    unfolding narrowOf soundSource
+    narrow-accepts = Iff·trans (accepted-exactly narrows narrowTests) (simp reading Iff·rfl)
+
+    pub narrow-does : accepted (narrowOf p start end s .said) ≡ true → narrowOf p start end s ≡ record { scan = fresh start end; said = Gives none }
+    unfolding narrowOf
+    narrow-does = accepted-is narrows narrowTests
+
+    pub narrow-keeps : accepted (narrowOf p start end s .said) ≡ false → narrowOf p start end s .scan ≡ s
+    unfolding narrowOf
+    narrow-keeps = scan-keeps narrows narrowTests
+
+  resets : Handing (record { scan = fresh (s .start) (s .end); said = Gives none })
+  resets = handing refl
+
+  pub reset-refuses : OfScan p s (resetOf p s .said)
+  unfolding resetOf
+  reset-refuses = scan-refuses resets
+
+  pub reset-accepts : (accepted (resetOf p s .said) ≡ true) ↔ ((soundSource p ≡ true) × (bad ≡ false))
+  unfolding resetOf
+  reset-accepts = scan-accepts resets
+
+  pub reset-does : accepted (resetOf p s .said) ≡ true → resetOf p s ≡ record { scan = fresh (s .start) (s .end); said = Gives none }
+  unfolding resetOf
+  reset-does = accepted-is resets (onScan p s)
+
+  pub reset-keeps : accepted (resetOf p s .said) ≡ false → resetOf p s .scan ≡ s
+  unfolding resetOf
+  reset-keeps = scan-keeps resets (onScan p s)
+
+  pub current-refuses : OfScan p s (currentOf p s)
+  unfolding currentOf
+  current-refuses = scan-refuses (plainly _)
+
+  pub current-accepts : (accepted (currentOf p s) ≡ true) ↔ ((soundSource p ≡ true) × (bad ≡ false))
+  unfolding currentOf
+  current-accepts = scan-accepts (plainly _)
+
+  pub current-does : accepted (currentOf p s) ≡ true → currentOf p s ≡ Gives (elementIn (p .sequence) (s .state))
+  unfolding currentOf
+  current-does = accepted-is (plainly _) (onScan p s)
+
+  pub pos-refuses : OfScan p s (posOf p s)
+  unfolding posOf
+  pos-refuses = scan-refuses (plainly _)
+
+  pub pos-accepts : (accepted (posOf p s) ≡ true) ↔ ((soundSource p ≡ true) × (bad ≡ false))
+  unfolding posOf
+  pos-accepts = scan-accepts (plainly _)
+
+  pub pos-does : accepted (posOf p s) ≡ true → posOf p s ≡ Gives (indexIn (s .state))
+  unfolding posOf
+  pos-does = accepted-is (plainly _) (onScan p s)
+
+  -- ---- next or seek
+
+  -- accepted exactly if it is allowed
+  pub move-accepts : (m : Move) → accepted (scanMove p m s .said) ≡ allowedScan p m s
+  unfolding allowedScan
+  move-accepts Next = same-test _ _ (Iff·trans next-accepts (simp reading Iff·rfl))
+  move-accepts (Seek x) = same-test _ _ (Iff·trans (seek-accepts x) (simp reading Iff·rfl))
+
+  pub move-does : (m : Move) → accepted (scanMove p m s .said) ≡ true → scanMove p m s ≡ moveScan (p .sequence) m s
+  move-does Next = next-does
+  move-does (Seek x) = seek-does x
+
+  pub move-keeps : (m : Move) → accepted (scanMove p m s .said) ≡ false → scanMove p m s .scan ≡ s
+  move-keeps Next = next-keeps
+  move-keeps (Seek x) = seek-keeps x

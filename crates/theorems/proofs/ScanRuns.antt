@@ -1,106 +1,84 @@
 -- Runs of calls on one scan: nothing is stepped past, next alone gives every element, and all answer what is expected. Assumes nothing.
 use Prim.Native.Nat.{ℕ, suc, _≤_, _<_}
-use mathlib.Core.Path.{_≡_, refl, sym, ap, _∙_}
+use mathlib.Core.Path.{_≡_, refl, ap, _∙_}
 use mathlib.Core.Bool.{true, false, not, _&&_}
 use mathlib.Core.List.{List, [], _∷_}
 use mathlib.Core.Option.{some, none}
+use mathlib.Core.Logic.{inl, inr, _↔_, Iff·rfl}
 use native.Mathlib.Omega.{arith}
-use borrow.Author.Tests.{le-ltb, ltb-true, ltb-false, not-false}
+use borrow.Author.Tests.{le-ltb, ltb-false}
 use lib.Dec.{ltb}
 use lib.ListN.{length}
 use lib.IntN.{ℤ}
 use lib.Signed.{ltZ}
 use Rattle.ranges.specs.Ranges.{every}
-use Rattle.ranges.proofs.Bools.{either, and-left, and-right, or-true, not-no, every-at, at-every, same-after}
+use Rattle.ranges.proofs.Bools.{either, and-left, and-right, or-true, every-at, at-every, same-after}
 use Rattle.ranges.proofs.Spans.{first-known, first-now}
 use Rattle.meaning.specs.Refusals.{Gives}
-use Rattle.meaning.specs.Sequence.{Sequence, Source, rises, firstNotBelow}
+use Rattle.meaning.specs.Sequence.{Sequence, Source, rises, firstNotBelow, elementsIn}
 use Rattle.loftsplice.specs.declared.scan.State.{State}
 use Rattle.loftsplice.specs.declared.scan.State.the-variants.{Fresh, At, Ended}
 use Rattle.loftsplice.specs.declared.scan.Scan.{Scan}
-use Rattle.loftsplice.specs.Scan.{Outcome, fresh, goTo, nextFrom, seekFrom, badScan, seekOf}
+use Rattle.loftsplice.specs.Scan.{Outcome, fresh, put, goTo, nextFrom, seekFrom, badScan, seekOf}
 use Rattle.loftsplice.specs.Filter.{Move, Next, Seek, moveScan}
-use Rattle.theorems.specs.Promise.{accepted, earliest, answerAt, expectedFrom}
-use Rattle.theorems.specs.Runs.{scanMove, scanAnswers, isNext, soundSource, allowedScan, risingWindow, elementsIn, those, listing, standing, anything}
-use Rattle.theorems.proofs.ScanCalls.{scanAt, Good, fresh-good, move-good, good-bad, move-accepted-exactly-if, refused-move-leaves, opened-move}
-use Rattle.theorems.proofs.Walks.{nexts-list}
+use Rattle.loftsplice.specs.Listing.{those}
+use Rattle.theorems.specs.Exact.{accepted, soundSource}
+use Rattle.theorems.specs.Demand3.{earliest, answerAt, expectedFrom}
+use Rattle.theorems.specs.Runs.{scanMove, scanAnswers, isNext, allowedScan, risingWindow, listing, standing, anything}
+use Rattle.theorems.proofs.Reading.{reading}
+use Rattle.theorems.proofs.ScanCalls.{seek-keeps, move-accepts, move-does, move-keeps}
+use Rattle.theorems.proofs.Moves.{Landing, Restricted, fresh-restricted, restricted-bad, move-restricted}
+use Rattle.theorems.proofs.DocComments.{sought-lands, seek-finds}
+use Rattle.theorems.proofs.Expected.{nexts-list}
 
 -- ---- nothing is stepped past
 
-passed-to : (q : Sequence) (x : ℤ) (s : Scan) (a i : ℕ) → a ≤ i → i < standing (goTo q s (firstNotBelow q x a (s .end)) .scan) → ltZ (q .at i) x ≡ true
-unfolding goTo
-passed-to q x s a i l h = by (firstNotBelow q x a (s .end)) (first-known (λ k. not (ltZ (q .at k) x)) a (s .end) .before i l) h
-  where
-    by : (j : ℕ) → (i < j → not (ltZ (q .at i) x) ≡ false) → i < standing (goTo q s j .scan) → ltZ (q .at i) x ≡ true
-    by j f h =
-        not-false (ltZ (q .at i) x) (f (either (ltb j (s .end)) (λ t. rw t at h) (λ t. let g : i < s .end = rw t at h in omega (arith, ltb-false j (s .end) t))))
-
 -- No seek, on any scan, steps past an element that is not below its target: no index from where the scan stood to where it stands has one.
 pub nothing-is-stepped-past : (p : Source) (x : ℤ) (s : Scan) (i : ℕ) → standing s ≤ i → i < standing (seekOf p x s .scan) → ltZ (p .sequence .at i) x ≡ true
-unfolding seekFrom
 nothing-is-stepped-past p x s i l h =
-    either (accepted (seekOf p x s .said))
-    (λ t. by (s .state) l (rw (opened-move p s (Seek x) t) at h))
-    (λ t. let g : i < standing s = rw (refused-move-leaves p s (Seek x) t) at h in absurd (omega arith))
+    either (accepted (seekOf p x s .said)) (λ t. by (sought-lands p s x t)) (λ t. let g : i < standing s = rw (seek-keeps p s x t) at h in absurd (omega arith))
   where
-    by : (t : State) → standing (record { start = s .start; end = s .end; state = t }) ≤ i → i < standing (seekFrom (p .sequence) x s t .scan) → ltZ (p .sequence .at i) x ≡ true
-    by Fresh l h = passed-to (p .sequence) x s (s .start) i l h
-    by (At j) l h = passed-to (p .sequence) x s j i l h
-    by Ended l h = absurd (omega arith)
-
-given-to : (q : Sequence) (x : ℤ) (s : Scan) (a : ℕ) (v : ℤ) → goTo q s (firstNotBelow q x a (s .end)) .said ≡ Gives (some v) → ltZ v x ≡ false
-unfolding goTo
-given-to q x s a v h = by (firstNotBelow q x a (s .end)) (first-known (λ k. not (ltZ (q .at k) x)) a (s .end) .holds) h
-  where
-    by : (j : ℕ) → (j < s .end → not (ltZ (q .at j) x) ≡ true) → goTo q s j .said ≡ Gives (some v) → ltZ v x ≡ false
-    by j f h =
-        either (ltb j (s .end))
-        (λ t. let g : Gives (some (q .at j)) ≡ Gives (some v) = rw t at h in let e : q .at j ≡ v = cc in rw (sym e) (not-no (ltZ (q .at j) x) (f (ltb-true j (s .end) t))))
-        (λ t. let g : Gives none ≡ Gives (some v) = rw t at h in let z : _≡_ {A = ℕ} 0 1 = cc in absurd (omega arith))
+    by : Landing (p .sequence) x s (standing s) (seekOf p x s) → ltZ (p .sequence .at i) x ≡ true
+    by (inl g) = g .first i l (rw (g .arrives) at h)
+    by (inr g) = g .below i l (rw (g .ends) at h)
 
 -- And what it gives is not below its target.
 pub what-a-seek-gives : (p : Source) (x : ℤ) (s : Scan) (v : ℤ) → seekOf p x s .said ≡ Gives (some v) → ltZ v x ≡ false
-unfolding seekFrom
-what-a-seek-gives p x s v h = by (s .state) (sym (ap (λ (o : Outcome). o .said) (opened-move p s (Seek x) (ap accepted h))) ∙ h)
-  where
-    by : (t : State) → seekFrom (p .sequence) x s t .said ≡ Gives (some v) → ltZ v x ≡ false
-    by Fresh h = given-to (p .sequence) x s (s .start) v h
-    by (At j) h = given-to (p .sequence) x s j v h
-    by Ended h = let z : _≡_ {A = ℕ} 0 1 = cc in absurd (omega arith)
+what-a-seek-gives p x s v h = seek-finds p s x v h .4
 
 -- ---- which runs are accepted
 
 module _ (p : Source) (s e : ℕ) where
-  allowed-alike : (m : Move) (c : Scan) → Good s e c → allowedScan p m c ≡ allowedScan p m (fresh s e)
+  allowed-alike : (m : Move) (c : Scan) → Restricted s e c → allowedScan p m c ≡ allowedScan p m (fresh s e)
   unfolding allowedScan
-  allowed-alike m c g = rw (good-bad (p .sequence) s e c g, g .start, g .end, good-bad (p .sequence) s e (fresh s e) (fresh-good (p .sequence) s e))
+  allowed-alike m c r =
+      rw (restricted-bad (p .sequence) c r, r .same-start, r .same-end, restricted-bad (p .sequence) (fresh s e) (fresh-restricted s e))
 
-  run-accepted : (ms : List Move) (c : Scan) → Good s e c → every accepted (scanAnswers p c ms) ≡ every (λ m. allowedScan p m (fresh s e)) ms
+  run-accepted : (ms : List Move) (c : Scan) → Restricted s e c → every accepted (scanAnswers p c ms) ≡ every (λ m. allowedScan p m (fresh s e)) ms
   unfolding every scanAnswers
-  run-accepted [] c g = refl
-  run-accepted (m ∷ ms) c g =
-      rw (move-accepted-exactly-if p c m ∙ allowed-alike m c g)
+  run-accepted [] c r = refl
+  run-accepted (m ∷ ms) c r =
+      rw (move-accepts p c m ∙ allowed-alike m c r)
       (ap (λ t. allowedScan p m (fresh s e) && t) (run-accepted ms (scanMove p m c .scan) next))
     where
-      next : Good s e (scanMove p m c .scan)
-      next = either (accepted (scanMove p m c .said))
-          (λ t. rw (opened-move p c m t) (move-good (p .sequence) s e m c g))
-          (λ t. rw (refused-move-leaves p c m t) g)
+      next : Restricted s e (scanMove p m c .scan)
+      next = either (accepted (scanMove p m c .said)) (λ t. rw (move-does p c m t) (move-restricted (p .sequence) c m r)) (λ t. rw (move-keeps p c m t) r)
 
   -- A run on a fresh scan is accepted exactly if each of its calls is allowed on the fresh scan.
   pub run-accepted-exactly-if : (ms : List Move) → every accepted (scanAnswers p (fresh s e) ms) ≡ every (λ m. allowedScan p m (fresh s e)) ms
-  run-accepted-exactly-if ms = run-accepted ms (fresh s e) (fresh-good (p .sequence) s e)
+  run-accepted-exactly-if ms = run-accepted ms (fresh s e) (fresh-restricted s e)
+
+-- what a window that rises tells
+pub rising-parts : (p : Source) (s e : ℕ) → (risingWindow p s e ≡ true) ↔ ((soundSource p ≡ true) × (ltb (p .sequence .size) e ≡ false) × (rises (p .sequence) s e ≡ true))
+unfolding risingWindow
+rising-parts p s e = simp reading Iff·rfl
 
 -- So every run is, over a window that rises.
 pub rising-accepted : (p : Source) (s e : ℕ) → risingWindow p s e ≡ true → (ms : List Move) → every accepted (scanAnswers p (fresh s e) ms) ≡ true
-unfolding allowedScan badScan risingWindow
-rising-accepted p s e h ms = run-accepted-exactly-if p s e ms ∙ at-every (λ m. allowedScan p m (fresh s e)) ms (λ m i. by m)
-  where
-    by : (m : Move) → allowedScan p m (fresh s e) ≡ true
-    by m =
-        let l = not (ltb (p .sequence .size) e) in
-        let g = and-left (soundSource p && l) (rises (p .sequence) s e) h in
-        rw (and-left (soundSource p) l g, not-no (ltb (p .sequence .size) e) (and-right (soundSource p) l g), and-right (soundSource p && l) (rises (p .sequence) s e) h, or-true (isNext m))
+unfolding allowedScan badScan
+rising-accepted p s e h ms =
+    let w = rising-parts p s e .0 h in
+    run-accepted-exactly-if p s e ms ∙ at-every (λ m. allowedScan p m (fresh s e)) ms (λ m i. rw (w .0, w .1, w .2, or-true (isNext m)))
 
 -- ---- what they answer
 
@@ -113,17 +91,17 @@ Stands s e Ended a b = (e ≤ a) × (e ≤ b)
 module _ (q : Sequence) (s e : ℕ) where
   -- what a move comes to: the answer at index j, and a scan that stands there
   abbrev Comes : Outcome → ℕ → Type 0
-  Comes o j = (t : State) × (o ≡ record { scan = scanAt s e t; said = answerAt q e j }) × Stands s e t (suc j) j
+  Comes o j = (t : State) × (o ≡ record { scan = put (fresh s e) t; said = answerAt q e j }) × Stands s e t (suc j) j
 
-  lands : (t : State) (j : ℕ) → Comes (goTo q (scanAt s e t) j) j
+  lands : (t : State) (j : ℕ) → Comes (goTo q (put (fresh s e) t) j) j
   unfolding goTo answerAt
   lands t j = either (ltb j e) (λ h. (At j, rw h, (refl, refl))) (λ h. let l : e ≤ j = ltb-false j e h in (Ended, rw h, (omega arith, l)))
 
-  ends : (j : ℕ) → e ≤ j → Comes (record { scan = scanAt s e Ended; said = Gives none }) j
+  ends : (j : ℕ) → e ≤ j → Comes (record { scan = put (fresh s e) Ended; said = Gives none }) j
   unfolding answerAt
   ends j l = (Ended, rw (le-ltb j e l), (omega arith, l))
 
-  comes : (m : Move) (t : State) (a b : ℕ) → Stands s e t a b → Comes (moveScan q m (scanAt s e t)) (earliest q e anything a b m)
+  comes : (m : Move) (t : State) (a b : ℕ) → Stands s e t a b → Comes (moveScan q m (put (fresh s e) t)) (earliest q e anything a b m)
   unfolding nextFrom seekFrom earliest
   comes Next Fresh a b h = rw (first-now (λ i. anything (q .at i)) a e (λ l. refl), h .0) (lands Fresh s)
   comes Next (At i) a b h = rw (first-now (λ i. anything (q .at i)) a e (λ l. refl), h .0) (lands (At i) (suc i))
@@ -133,16 +111,16 @@ module _ (q : Sequence) (s e : ℕ) where
   comes (Seek x) Ended a b h = ends (firstNotBelow q x b e) (omega (arith, h .1, first-known (λ i. not (ltZ (q .at i) x)) b e .from))
 
 run-answers : (p : Source) (s e : ℕ) (ms : List Move) (t : State) (a b : ℕ) → Stands s e t a b
-    → every accepted (scanAnswers p (scanAt s e t) ms) ≡ true
-    → scanAnswers p (scanAt s e t) ms ≡ expectedFrom (p .sequence) e anything a b ms
+    → every accepted (scanAnswers p (put (fresh s e) t) ms) ≡ true
+    → scanAnswers p (put (fresh s e) t) ms ≡ expectedFrom (p .sequence) e anything a b ms
 unfolding every scanAnswers expectedFrom
 run-answers p s e [] t a b h acc = refl
 run-answers p s e (m ∷ ms) t a b h acc =
-    let c = scanAt s e t in
+    let c = put (fresh s e) t in
     let w = comes (p .sequence) s e m t a b h in
     let j = earliest (p .sequence) e anything a b m in
-    let o : scanMove p m c ≡ record { scan = scanAt s e (w .0); said = answerAt (p .sequence) e j }
-    = opened-move p c m (and-left (accepted (scanMove p m c .said)) (every accepted (scanAnswers p (scanMove p m c .scan) ms)) acc) ∙ w .1 in
+    let o : scanMove p m c ≡ record { scan = put (fresh s e) (w .0); said = answerAt (p .sequence) e j }
+    = move-does p c m (and-left (accepted (scanMove p m c .said)) (every accepted (scanAnswers p (scanMove p m c .scan) ms)) acc) ∙ w .1 in
     rw o (same-after (answerAt (p .sequence) e j) (run-answers p s e ms (w .0) (suc j) j (w .2)
     (rw o at (and-right (accepted (scanMove p m c .said)) (every accepted (scanAnswers p (scanMove p m c .scan) ms)) acc))))
 

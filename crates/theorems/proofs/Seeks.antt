@@ -18,8 +18,9 @@ use Rattle.ranges.proofs.Spans.{First, first-known, first-is, first-none, lt-or
 use Rattle.meaning.specs.Refusals.{Said, Gives, Number}
 use Rattle.meaning.specs.Sequence.{Sequence, rises}
 use Rattle.loftsplice.specs.Filter.{found, Next, Seek}
-use Rattle.theorems.specs.Promise.{earliest, answerAt, expectedFrom}
+use Rattle.theorems.specs.Demand3.{earliest, answerAt, expectedFrom}
 use Rattle.theorems.specs.Audit.{Holds, ascendingFrom, ascending, filled}
+use Rattle.theorems.proofs.Reading.{none-given}
 use Rattle.theorems.proofs.Bounds.{equal-is}
 use Rattle.theorems.proofs.Windows.{climbs}
 
@@ -100,7 +101,7 @@ module _ (q : Sequence) (s e : ℕ) (ok : ℤ → Bool) where
           ⊎-elim
           (λ (l : j < e). let v : Gives (some (q .at j)) ≡ Gives (some k) = rw (lt-ltb j e l) at h in let i : q .at j ≡ k = cc in
           ((j, g .from, l, i), sym (ap ok i) ∙ and-left (ok (q .at j)) (not (ltZ (q .at j) k)) (g .holds l)))
-          (λ (l : e ≤ j). let v : Gives none ≡ Gives (some k) = rw (le-ltb j e l) at h in let z : _≡_ {A = ℕ} 0 1 = cc in absurd (omega arith))
+          (λ (l : e ≤ j). none-given (rw (le-ltb j e l) at h))
           (lt-or-ge j e)
 
       back : Holds q s e k × (ok k ≡ true) → alone k ≡ Gives (some k)

@@ -49,8 +49,8 @@ abbrev pub Injective : {A B : Type 0} → (A → B) → Type 0
 Injective {A} says = (x y : A) → says x ≡ says y → x ≡ y
 
 -- two results that meet one promise are equal
-pub only : {A B : Type 0} (says : A → B) → Injective says → {s : B} (x y : A) → says x ≡ s → says y ≡ s → x ≡ y
-only says apart x y p q = apart x y (p ∙ sym q)
+pub one-result : {A B : Type 0} (says : A → B) → Injective says → {s : B} (x y : A) → says x ≡ s → says y ≡ s → x ≡ y
+one-result says apart x y p q = apart x y (p ∙ sym q)
 
 -- what can be undone tells its arguments apart
 pub undone : {A B : Type 0} (says : A → B) (back : B → A) → ((x : A) → back (says x) ≡ x) → Injective says
@@ -88,43 +88,39 @@ number-apart = undone numberOf refusalOf refusal-is
 pub difference-apart : Injective saysDifference
 difference-apart = undone saysDifference (elim [ some d ↦ Step d | none ↦ NoStep ]) (elim [ Step d ↦ refl | NoStep ↦ refl ])
 
+-- the answer that says this, by what it gives and how it refuses
+abbrev answering : {A B : Type 0} → (B → A) → (Refusal → A) → Said B → A
+answering give refused (Gives b) = give b
+answering give refused (Number n) = refused (refusalOf n)
+
 pub checked-apart : Injective saysChecked
-checked-apart = undone saysChecked (elim [ Gives x ↦ Fine | Number n ↦ CheckedRefused (refusalOf n) ])
-    (elim [ Fine ↦ refl | CheckedRefused w ↦ ap CheckedRefused (refusal-is w) ])
+checked-apart = undone saysChecked (answering (λ x. Fine) CheckedRefused) (elim [ Fine ↦ refl | CheckedRefused w ↦ ap CheckedRefused (refusal-is w) ])
 
 pub length-apart : Injective saysLength
-length-apart = undone saysLength (elim [ Gives n ↦ Is n | Number n ↦ LengthRefused (refusalOf n) ])
-    (elim [ Is n ↦ refl | LengthRefused w ↦ ap LengthRefused (refusal-is w) ])
+length-apart = undone saysLength (answering Is LengthRefused) (elim [ Is n ↦ refl | LengthRefused w ↦ ap LengthRefused (refusal-is w) ])
 
 pub emptiness-apart : Injective saysEmptiness
-emptiness-apart = undone saysEmptiness (elim [ Gives true ↦ Empty | Gives false ↦ Held | Number n ↦ EmptinessRefused (refusalOf n) ])
+emptiness-apart = undone saysEmptiness (answering (elim [ true ↦ Empty | false ↦ Held ]) EmptinessRefused)
     (elim [ Empty ↦ refl | Held ↦ refl | EmptinessRefused w ↦ ap EmptinessRefused (refusal-is w) ])
 
 pub placed-apart : Injective saysPlaced
-placed-apart = undone saysPlaced (elim [ Gives x ↦ PlacedAt (x .run) (x .offset) | Number n ↦ PlacedRefused (refusalOf n) ])
-    (elim [ PlacedAt r k ↦ refl | PlacedRefused w ↦ ap PlacedRefused (refusal-is w) ])
+placed-apart = undone saysPlaced (answering (λ x. PlacedAt (x .run) (x .offset)) PlacedRefused) (elim [ PlacedAt r k ↦ refl | PlacedRefused w ↦ ap PlacedRefused (refusal-is w) ])
 
 pub got-apart : Injective saysGot
-got-apart = undone saysGot (elim [ Gives v ↦ GotValue v | Number n ↦ GotRefused (refusalOf n) ])
-    (elim [ GotValue v ↦ refl | GotRefused w ↦ ap GotRefused (refusal-is w) ])
+got-apart = undone saysGot (answering GotValue GotRefused) (elim [ GotValue v ↦ refl | GotRefused w ↦ ap GotRefused (refusal-is w) ])
 
 pub made-apart : Injective saysMade
-made-apart = undone saysMade (elim [ Gives s ↦ MadeReady s | Number n ↦ MadeRefused (refusalOf n) ])
-    (elim [ MadeReady s ↦ refl | MadeRefused w ↦ ap MadeRefused (refusal-is w) ])
+made-apart = undone saysMade (answering MadeReady MadeRefused) (elim [ MadeReady s ↦ refl | MadeRefused w ↦ ap MadeRefused (refusal-is w) ])
 
 pub fitted-apart : Injective saysFitted
-fitted-apart = undone saysFitted (elim [ Gives f ↦ FittedReady f | Number n ↦ FittedRefused (refusalOf n) ])
-    (elim [ FittedReady f ↦ refl | FittedRefused w ↦ ap FittedRefused (refusal-is w) ])
+fitted-apart = undone saysFitted (answering FittedReady FittedRefused) (elim [ FittedReady f ↦ refl | FittedRefused w ↦ ap FittedRefused (refusal-is w) ])
 
 pub position-apart : Injective saysPosition
-position-apart = undone saysPosition (elim [ Gives (some i) ↦ AtIndex i | Gives none ↦ NoIndex | Number n ↦ PositionRefused (refusalOf n) ])
+position-apart = undone saysPosition (answering (elim [ some i ↦ AtIndex i | none ↦ NoIndex ]) PositionRefused)
     (elim [ AtIndex i ↦ refl | NoIndex ↦ refl | PositionRefused w ↦ ap PositionRefused (refusal-is w) ])
 
--- the answer that says this
 abbrev answerOf : Said (Option ℤ) → Answer
-answerOf (Gives (some v)) = Value v
-answerOf (Gives none) = None
-answerOf (Number n) = Refused (refusalOf n)
+answerOf = answering (elim [ some v ↦ Value v | none ↦ None ]) Refused
 
 answer-is : (a : Answer) → answerOf (saysAnswer a) ≡ a
 answer-is = elim [ Value v ↦ refl | None ↦ refl | Refused w ↦ ap Refused (refusal-is w) ]
@@ -142,58 +138,58 @@ sifting-apart = undone siftingOf (λ o. record { filter = o .filter; answer = an
 -- ---- a line a call
 
 pub diff-step-one : (previous current : ℤ) (x y : Difference) → saysDifference x ≡ diffStepOf previous current → saysDifference y ≡ diffStepOf previous current → x ≡ y
-diff-step-one previous current = only saysDifference difference-apart
+diff-step-one previous current = one-result saysDifference difference-apart
 
 module _ (c : Column) where
   pub check-one : (x y : Checked) → saysChecked x ≡ checkOf c → saysChecked y ≡ checkOf c → x ≡ y
-  check-one = only saysChecked checked-apart
+  check-one = one-result saysChecked checked-apart
 
   pub len-one : (x y : Length) → saysLength x ≡ lenOf c → saysLength y ≡ lenOf c → x ≡ y
-  len-one = only saysLength length-apart
+  len-one = one-result saysLength length-apart
 
   pub is-empty-one : (x y : Emptiness) → saysEmptiness x ≡ isEmptyOf c → saysEmptiness y ≡ isEmptyOf c → x ≡ y
-  is-empty-one = only saysEmptiness emptiness-apart
+  is-empty-one = one-result saysEmptiness emptiness-apart
 
   pub place-one : (i : ℕ) (x y : Placed) → saysPlaced x ≡ placeOf c i → saysPlaced y ≡ placeOf c i → x ≡ y
-  place-one i = only saysPlaced placed-apart
+  place-one i = one-result saysPlaced placed-apart
 
   pub get-one : (i : ℕ) (x y : Got) → saysGot x ≡ getOf c i → saysGot y ≡ getOf c i → x ≡ y
-  get-one i = only saysGot got-apart
+  get-one i = one-result saysGot got-apart
 
 module _ (p : Source) where
   pub new-one : (x y : Made) → saysMade x ≡ newOf p → saysMade y ≡ newOf p → x ≡ y
-  new-one = only saysMade made-apart
+  new-one = one-result saysMade made-apart
 
   module _ (s : Scan) where
     pub next-one : (x y : Moved) → outcomeOf x ≡ nextOf p s → outcomeOf y ≡ nextOf p s → x ≡ y
-    next-one = only outcomeOf outcome-apart
+    next-one = one-result outcomeOf outcome-apart
 
     pub seek-one : (target : ℤ) (x y : Moved) → outcomeOf x ≡ seekOf p target s → outcomeOf y ≡ seekOf p target s → x ≡ y
-    seek-one target = only outcomeOf outcome-apart
+    seek-one target = one-result outcomeOf outcome-apart
 
     pub narrow-one : (start end : ℕ) (x y : Moved) → outcomeOf x ≡ narrowOf p start end s → outcomeOf y ≡ narrowOf p start end s → x ≡ y
-    narrow-one start end = only outcomeOf outcome-apart
+    narrow-one start end = one-result outcomeOf outcome-apart
 
     pub reset-one : (x y : Moved) → outcomeOf x ≡ resetOf p s → outcomeOf y ≡ resetOf p s → x ≡ y
-    reset-one = only outcomeOf outcome-apart
+    reset-one = one-result outcomeOf outcome-apart
 
     pub current-one : (x y : Answer) → saysAnswer x ≡ currentOf p s → saysAnswer y ≡ currentOf p s → x ≡ y
-    current-one = only saysAnswer answer-apart
+    current-one = one-result saysAnswer answer-apart
 
     pub pos-one : (x y : Position) → saysPosition x ≡ posOf p s → saysPosition y ≡ posOf p s → x ≡ y
-    pos-one = only saysPosition position-apart
+    pos-one = one-result saysPosition position-apart
 
   module _ (f : Filter) where
     -- next and seek
     pub filter-call-one : (k : Call) (x y : Sifted) → siftingOf x ≡ callOf p k f → siftingOf y ≡ callOf p k f → x ≡ y
-    filter-call-one k = only siftingOf sifting-apart
+    filter-call-one k = one-result siftingOf sifting-apart
 
     pub filter-current-one : (x y : Answer) → saysAnswer x ≡ filterCurrentOf p f → saysAnswer y ≡ filterCurrentOf p f → x ≡ y
-    filter-current-one = only saysAnswer answer-apart
+    filter-current-one = one-result saysAnswer answer-apart
 
 -- reset promises its result itself
 pub filter-reset-one : (f x y : Filter) → x ≡ filterResetOf f → y ≡ filterResetOf f → x ≡ y
-filter-reset-one f = only (λ x. x) (λ x y e. e)
+filter-reset-one f = one-result (λ x. x) (λ x y e. e)
 
 pub filter-new-one : (s : Scan) (lows ups : Bounds) (x y : Fitted) → saysFitted x ≡ fitOf s lows ups → saysFitted y ≡ fitOf s lows ups → x ≡ y
-filter-new-one s lows ups = only saysFitted fitted-apart
+filter-new-one s lows ups = one-result saysFitted fitted-apart

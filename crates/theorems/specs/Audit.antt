@@ -12,7 +12,7 @@ use Rattle.meaning.specs.Sequence.{Sequence, Source}
 use Rattle.loftsplice.specs.declared.scan.Scan.{Scan}
 use Rattle.loftsplice.specs.declared.filter_interval.Bound.{Bound}
 use Rattle.loftsplice.specs.Filter.{found, Seek, Call, tooMany}
-use Rattle.theorems.specs.Promise.{meetsAll}
+use Rattle.theorems.specs.Demand3.{meetsAll}
 use Rattle.theorems.specs.Runs.{scanAnswers}
 
 -- "some element .. is k": at an index of the window start..end (of the column: 0..size)

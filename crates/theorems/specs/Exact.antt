@@ -1,11 +1,10 @@
 -- Document 01, "Refusal numbers": the words of "Given exactly if". Assumes nothing.
-use mathlib.Core.Bool.{Bool, not, cond, _&&_}
-use mathlib.Core.List.{List, [], _∷_}
 use mathlib.Core.Path.{_≡_}
+use mathlib.Core.Bool.{Bool, true, false, not, cond, _&&_}
+use mathlib.Core.List.{List, [], _∷_}
 use lib.Dec.{eqb}
-use Rattle.ranges.specs.Ranges.{every}
 use Rattle.meaning.specs.declared.Refusal.{Refusal}
-use Rattle.meaning.specs.Refusals.{Said, Gives, numberOf}
+use Rattle.meaning.specs.Refusals.{Said, Gives, Number, numberOf}
 use Rattle.meaning.specs.Sequence.{Source}
 use Rattle.loftsplice.specs.Filter.{Call, inputs, variables, readable}
 
@@ -15,16 +14,18 @@ earlier w [] = []
 earlier w (v ∷ vs) = cond (eqb (numberOf v) (numberOf w)) [] (v ∷ earlier w vs)
 
 -- the condition of none of them holds
-abbrev pub noneOf : (Refusal → Bool) → List Refusal → Bool
-noneOf f vs = every (λ v. not (f v)) vs
+abbrev pub NoneOf : (Refusal → Bool) → List Refusal → Type 0
+NoneOf f [] = Unit {0}
+NoneOf f (v ∷ vs) = (f v ≡ false) × NoneOf f vs
 
--- an accepted call: what is said is an answer
-abbrev pub Accepted : {A : Type 0} → Said A → Type 0
-Accepted {A} x = (a : A) × (x ≡ Gives a)
+-- "accepted": the answer is no refusal
+abbrev pub accepted : {A : Type 0} → Said A → Bool
+accepted (Gives a) = true
+accepted (Number n) = false
 
--- a source that 1, 2 and 3 pass
-unfoldable pub passes : Source → Bool
-passes p = not (p .shape) && not (p .ends) && not (p .reach)
+-- a source that none of 1, 2 and 3 refuses
+unfoldable pub soundSource : Source → Bool
+soundSource p = not (p .shape) && not (p .ends) && not (p .reach)
 
 -- 9 INPUT, the other way: every variable bound names an input that is there and has a value
 abbrev pub allReadable : Call → Bool

@@ -1,5 +1,5 @@
 pub mod Exact
-pub mod Table
-pub mod Promise
+pub mod Demand3
 pub mod Runs
 pub mod Audit
+pub mod Table

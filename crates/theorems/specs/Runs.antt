@@ -8,7 +8,7 @@ use lib.IntN.{ℤ}
 use lib.Signed.{ltZ}
 use Rattle.ranges.specs.Ranges.{every}
 use Rattle.meaning.specs.Refusals.{Said, Gives, Number}
-use Rattle.meaning.specs.Sequence.{Sequence, Source, rises}
+use Rattle.meaning.specs.Sequence.{Sequence, Source, rises, elementsIn}
 use Rattle.loftsplice.specs.declared.scan.State.{State}
 use Rattle.loftsplice.specs.declared.scan.State.the-variants.{Fresh, At, Ended}
 use Rattle.loftsplice.specs.declared.scan.Scan.{Scan}
@@ -17,8 +17,10 @@ use Rattle.loftsplice.specs.declared.filter_interval.Limit.{Limit}
 use Rattle.loftsplice.specs.declared.filter_interval.Limit.the-variants.{Free, To}
 use Rattle.loftsplice.specs.declared.filter_interval.Filter.{Filter}
 use Rattle.loftsplice.specs.Scan.{Outcome, badScan, nextOf, seekOf}
-use Rattle.loftsplice.specs.Filter.{meetsLower, meetsUpper, inputs, variables, readable, tooMany, unread, Move, Next, Seek, Call, callOf}
-use Rattle.theorems.specs.Promise.{accepted, allLower, allUpper, meetsAll, bothWays}
+use Rattle.loftsplice.specs.Filter.{meetsLower, meetsUpper, tooMany, Move, Next, Seek, Call, callOf}
+use Rattle.loftsplice.specs.Listing.{those}
+use Rattle.theorems.specs.Exact.{accepted, soundSource, allReadable}
+use Rattle.theorems.specs.Demand3.{allLower, allUpper, meetsAll, bothWays}
 
 -- ---- none stays, and next alone
 
@@ -37,19 +39,6 @@ noneStays (a ∷ rest) = cond (isNone a) (every isNone rest) (noneStays rest)
 abbrev pub isNext : Move → Bool
 isNext Next = true
 isNext (Seek x) = false
-
--- the elements of a window, in order: of n indices from a on, and of start..end
-unfoldable pub elementsFor : Sequence → ℕ → ℕ → List ℤ
-elementsFor q a zero = []
-elementsFor q a (suc n) = q .at a ∷ elementsFor q (suc a) n
-
-abbrev pub elementsIn : Sequence → ℕ → ℕ → List ℤ
-elementsIn q start end = elementsFor q start (end - start)
-
--- those of a list that meet a test
-unfoldable pub those : (ℤ → Bool) → List ℤ → List ℤ
-those meets [] = []
-those meets (x ∷ xs) = cond (meets x) (x ∷ those meets xs) (those meets xs)
 
 -- "every such element once, in order": the elements of the window that meet every bound
 abbrev pub suchElements : Sequence → ℕ → ℕ → List Bound → List Bound → Call → List ℤ
@@ -89,11 +78,6 @@ walk xs ys (m ∷ ms) = let zs = ahead xs ys m in firstOf zs ∷ walk (restOf zs
 
 -- ---- folded bounds, and a tie
 
--- v meets a limit below
-abbrev pub above : Limit → ℤ → Bool
-above Free v = true
-above (To b) v = meetsLower v b
-
 -- what a filter lets through, with a tie or without: "the least is the inclusive one although the comment asks that all bounds be met"
 unfoldable pub letThrough : List Bound → List Bound → ℤ → Bool
 letThrough lows ups v = every (meetsLower v) lows && (every (meetsUpper v) ups || bothWays ups v)
@@ -125,19 +109,9 @@ standing s = standsIn s (s .state)
 
 -- ---- which calls are accepted
 
--- a column that is refused by none of 1, 2 and 3
-unfoldable pub soundSource : Source → Bool
-soundSource p = not (p .shape) && not (p .ends) && not (p .reach)
-
 -- next or seek on a scan: none of 1, 2, 3 and 6, and for a seek 7, is to be given
 unfoldable pub allowedScan : Source → Move → Scan → Bool
 allowedScan p m s = soundSource p && not (badScan (p .sequence) s) && (isNext m || rises (p .sequence) (s .start) (s .end))
-
--- next or seek on a filter: none of 1, 2, 3, 6, 8, 7 and 9 is to be given
-unfoldable pub allowed : Source → Call → Filter → Bool
-allowed p k f =
-    soundSource p && not (badScan (p .sequence) (f .scan)) && not (tooMany k) && rises (p .sequence) (f .scan .start) (f .scan .end)
-    && not (unread k (f .state))
 
 -- "a window that strictly rises", and that ends within a sound column
 unfoldable pub risingWindow : Source → ℕ → ℕ → Bool
@@ -147,8 +121,7 @@ risingWindow p start end = soundSource p && not (ltb (p .sequence .size) end) &&
 -- and a first call whose variable bounds name inputs that have a value
 unfoldable pub acceptable : Source → ℕ → ℕ → Call → List Call → Bool
 acceptable p start end k ks =
-    risingWindow p start end && every (λ k. not (tooMany k)) (k ∷ ks)
-    && (readable (inputs (k .inputs)) (variables (k .lower)) && readable (inputs (k .inputs)) (variables (k .upper)))
+    risingWindow p start end && every (λ k. not (tooMany k)) (k ∷ ks) && allReadable k
 
 -- of any run, the calls that are accepted, and of its answers, those of accepted calls
 unfoldable pub kept : Source → Filter → List Call → List Call

@@ -1,10 +1,9 @@
--- The expected answers once more: none stays none, next alone lists, and all are a walk through a list. Assumes nothing.
-use Prim.Native.Nat.{ℕ, zero, suc, _+_, _-_, _≤_, _<_}
+-- The expected answers: none stays none, next alone lists, and all are a walk through a list. Assumes nothing.
+use Prim.Native.Nat.{ℕ, zero, suc, _-_, _≤_, _<_}
 use mathlib.Core.Path.{_≡_, refl, ap, _∙_}
 use mathlib.Core.Bool.{Bool, true, cond, not, _&&_, false≢true}
-use mathlib.Core.List.{List, [], _∷_}
-use mathlib.Core.Option.{some, none}
-use mathlib.Core.Logic.{⊎-elim}
+use mathlib.Core.List.{List, [], _∷_, map}
+use mathlib.Core.Option.{Option, some, none}
 use native.Mathlib.Omega.{arith}
 use borrow.Author.Tests.{lt-ltb, le-ltb, ltb-true, ltb-false}
 use lib.Dec.{ltb}
@@ -13,35 +12,50 @@ use lib.IntN.{ℤ}
 use lib.Signed.{ltZ}
 use Rattle.ranges.specs.Ranges.{firstFor, firstFrom, every}
 use Rattle.ranges.proofs.Bools.{either, and-left, and-right, same-after}
-use Rattle.ranges.proofs.Spans.{first-known, first-now, lt-or-ge}
-use Rattle.meaning.specs.Refusals.{Gives}
-use Rattle.meaning.specs.Sequence.{Sequence}
+use Rattle.ranges.proofs.Spans.{first-known, first-now}
+use Rattle.meaning.specs.Refusals.{Said, Gives}
+use Rattle.meaning.specs.Sequence.{Sequence, elementsFor, elementsIn}
 use Rattle.loftsplice.specs.Filter.{Move, Next, Seek}
-use Rattle.theorems.specs.Promise.{earliest, answerAt, expectedFrom}
-use Rattle.theorems.specs.Runs.{isNone, noneStays, isNext, elementsFor, elementsIn, those, listing, notBelow, ahead, walk}
-use Rattle.theorems.proofs.FilterRuns.{far}
+use Rattle.loftsplice.specs.Listing.{those}
+use Rattle.theorems.specs.Demand3.{earliest, answerAt, expectedFrom}
+use Rattle.theorems.specs.Runs.{isNone, noneStays, isNext, listing, notBelow, ahead, walk}
 
 pub is-next : (m : Move) → isNext m ≡ true → m ≡ Next
 is-next Next h = refl
 is-next (Seek x) h = absurd (false≢true h)
 
+-- none for each of some calls
+abbrev pub nones : List Move → List (Said (Option ℤ))
+nones ms = map (λ (m : Move). Gives none) ms
+
+all-none : (ms : List Move) → every isNone (nones ms) ≡ true
+unfolding every
+all-none [] = refl
+all-none (m ∷ ms) = all-none ms
+
 module _ (q : Sequence) (e : ℕ) (ok : ℤ → Bool) where
   -- ---- none stays none
 
-  over-none : (a b : ℕ) (ms : List Move) → e ≤ a → e ≤ b → every isNone (expectedFrom q e ok a b ms) ≡ true
-  unfolding expectedFrom answerAt every
-  over-none a b [] l m = refl
-  over-none a b (x ∷ ms) l m =
+  -- nothing is expected past the window's end
+  far : (a b : ℕ) (m : Move) → e ≤ a → e ≤ b → e ≤ earliest q e ok a b m
+  unfolding earliest
+  far a b Next l m = omega (arith, first-known (λ i. ok (q .at i)) a e .from)
+  far a b (Seek x) l m = omega (arith, first-known (λ i. ok (q .at i) && not (ltZ (q .at i) x)) b e .from)
+
+  pub over-run : (a b : ℕ) (ms : List Move) → e ≤ a → e ≤ b → expectedFrom q e ok a b ms ≡ nones ms
+  unfolding expectedFrom answerAt
+  over-run a b [] l m = refl
+  over-run a b (x ∷ ms) l m =
       let i : ℕ = earliest q e ok a b x in
-      let n : e ≤ i = far q e ok a b x l m in
-      rw (le-ltb i e n) (over-none (suc i) i ms (omega arith) n)
+      let n : e ≤ i = far a b x l m in
+      rw (le-ltb i e n) (same-after (Gives none) (over-run (suc i) i ms (omega arith) n))
 
   pub stays-none : (a b : ℕ) (ms : List Move) → noneStays (expectedFrom q e ok a b ms) ≡ true
   unfolding expectedFrom answerAt noneStays
   stays-none a b [] = refl
   stays-none a b (x ∷ ms) =
       let i : ℕ = earliest q e ok a b x in
-      either (ltb i e) (λ t. rw t (stays-none (suc i) i ms)) (λ t. let n : e ≤ i = ltb-false i e t in rw t (over-none (suc i) i ms (omega arith) n))
+      either (ltb i e) (λ t. rw t (stays-none (suc i) i ms)) (λ t. let n : e ≤ i = ltb-false i e t in rw (t, over-run (suc i) i ms (omega arith) n) (all-none ms))
 
   -- ---- the elements that meet the test, from an index on
 
@@ -52,7 +66,7 @@ module _ (q : Sequence) (e : ℕ) (ok : ℤ → Bool) where
   abbrev begun : ℕ → List ℤ
   begun i = cond (ltb i e) (q .at i ∷ such (suc i)) []
 
-  such-for : (n a : ℕ) → e ≡ a + n → those ok (elementsFor q a n) ≡ begun (firstFor (λ i. ok (q .at i)) a n)
+  such-for : (n a : ℕ) → e - a ≡ n → those ok (elementsFor q a n) ≡ begun (firstFor (λ i. ok (q .at i)) a n)
   unfolding those elementsFor firstFor
   such-for zero a h = rw (le-ltb a e (omega arith))
   such-for (suc n) a h =
@@ -65,11 +79,7 @@ module _ (q : Sequence) (e : ℕ) (ok : ℤ → Bool) where
   such-empty a l = let z : e - a ≡ 0 = omega arith in rw z
 
   such-next : (a : ℕ) → such a ≡ begun (firstFrom (λ i. ok (q .at i)) a e)
-  unfolding firstFor
-  such-next a =
-      ⊎-elim (λ (l : a < e). such-for (e - a) a (omega arith))
-      (λ (l : e ≤ a). let z : e - a ≡ 0 = omega arith in such-empty a l ∙ rw (z, le-ltb a e l))
-      (lt-or-ge a e)
+  such-next a = such-for (e - a) a refl
 
   such-here : (i : ℕ) → i < e → ok (q .at i) ≡ true → such i ≡ (q .at i ∷ such (suc i))
   such-here i l h = such-next i ∙ rw (first-now (λ j. ok (q .at j)) i e (λ m. h), lt-ltb i e l)
@@ -89,7 +99,7 @@ module _ (q : Sequence) (e : ℕ) (ok : ℤ → Bool) where
 
   -- ---- the walk
 
-  below-for : (x : ℤ) (n a : ℕ) → e ≡ a + n → notBelow x (those ok (elementsFor q a n)) ≡ begun (firstFor (λ i. ok (q .at i) && not (ltZ (q .at i) x)) a n)
+  below-for : (x : ℤ) (n a : ℕ) → e - a ≡ n → notBelow x (those ok (elementsFor q a n)) ≡ begun (firstFor (λ i. ok (q .at i) && not (ltZ (q .at i) x)) a n)
   unfolding those elementsFor firstFor notBelow
   below-for x zero a h = rw (le-ltb a e (omega arith))
   below-for x (suc n) a h =
@@ -99,18 +109,11 @@ module _ (q : Sequence) (e : ℕ) (ok : ℤ → Bool) where
       (λ w. let z : e - suc a ≡ n = omega arith in rw (t, w, lt-ltb a e (omega arith), z)))
       (λ t. rw t (below-for x n (suc a) (omega arith)))
 
-  below-next : (x : ℤ) (a : ℕ) → notBelow x (such a) ≡ begun (firstFrom (λ i. ok (q .at i) && not (ltZ (q .at i) x)) a e)
-  unfolding firstFor notBelow
-  below-next x a =
-      ⊎-elim (λ (l : a < e). below-for x (e - a) a (omega arith))
-      (λ (l : e ≤ a). let z : e - a ≡ 0 = omega arith in rw (such-empty a l, z, le-ltb a e l))
-      (lt-or-ge a e)
-
   -- what is ahead begins at the earliest index
   ahead-is : (a b : ℕ) (m : Move) → ahead (such a) (such b) m ≡ begun (earliest q e ok a b m)
   unfolding earliest
   ahead-is a b Next = such-next a
-  ahead-is a b (Seek x) = below-next x b
+  ahead-is a b (Seek x) = below-for x (e - b) b refl
 
   meets-there : (a b : ℕ) (m : Move) → earliest q e ok a b m < e → ok (q .at (earliest q e ok a b m)) ≡ true
   unfolding earliest

@@ -1,13 +1,13 @@
 -- The words of demand 3: what a run of calls on a new filter is to answer. Assumes nothing.
 use Prim.Native.Nat.{ℕ, suc}
-use mathlib.Core.Bool.{Bool, true, false, cond, not, _&&_}
+use mathlib.Core.Bool.{Bool, cond, not, _&&_}
 use mathlib.Core.List.{List, [], _∷_, _++_, map}
 use mathlib.Core.Option.{Option, some, none}
 use lib.Dec.{ltb}
 use lib.IntN.{ℤ}
 use lib.Signed.{ltZ}
 use Rattle.ranges.specs.Ranges.{firstFrom, every, someOf}
-use Rattle.meaning.specs.Refusals.{Said, Gives, Number}
+use Rattle.meaning.specs.Refusals.{Said, Gives}
 use Rattle.meaning.specs.Sequence.{Sequence, Source}
 use Rattle.loftsplice.specs.declared.filter_interval.Bound.{Bound}
 use Rattle.loftsplice.specs.declared.filter_interval.Filter.{Filter}
@@ -24,11 +24,6 @@ answersOf p f (k ∷ ks) = callOf p k f .said ∷ answersOf p (callOf p k f .fil
 -- "a fresh scan on it, a new filter": what a first call k and calls ks after it answer
 abbrev pub answers : Source → ℕ → ℕ → List Bound → List Bound → Call → List Call → List (Said (Option ℤ))
 answers p start end lows ups k ks = answersOf p (newFilter (fresh start end) lows ups) (k ∷ ks)
-
--- "accepted": the answer is no refusal
-abbrev pub accepted : {A : Type 0} → Said A → Bool
-accepted (Gives a) = true
-accepted (Number n) = false
 
 -- next or seek, of each call
 abbrev pub moves : List Call → List Move
