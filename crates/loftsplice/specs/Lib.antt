@@ -1,4 +1,5 @@
 pub mod Says
 pub mod Scan
 pub mod Filter
+pub mod Inner
 pub mod Listing

@@ -1,6 +1,17 @@
 // The interval filter: the Rust's filter_interval.rs. It holds its scan by value.
+ghost use mathlib.Core.Path.{_≡_};
+ghost use Rattle.meaning.specs.Column.{lent, sourceOf};
+ghost use Rattle.loftsplice.specs.Scan.{saysAnswer};
+ghost use Rattle.loftsplice.specs.Filter.{saysFitted, siftingOf, Next, Seek, fitOf, callOf, filterCurrentOf, filterResetOf};
+use crate::bounds::fold;
 use crate::scan::Answer;
 use crate::scan::Scan;
+use crate::scan::check_scan;
+use crate::scan::current_in;
+use crate::sifting::Asked;
+use crate::sifting::Step;
+use crate::sifting::sift;
+use checked::Checked;
 use meaning::Refusal;
 
 // "Bounds are inclusive or exclusive."
@@ -75,4 +86,105 @@ pub struct Sifted {
 pub enum Fitted {
     Ready(Filter),
     Refused(Refusal),
+}
+
+impl Filter {
+    // "Constant bounds are folded when a filter is made"; or refused 8.
+    pub fn new(scan: Scan, lower: Bounds, upper: Bounds) -> Fitted
+        ensures { λ r. ⌜ saysFitted r ≡ fitOf scan lower upper ⌝ }
+    {
+        let lows = lower.count;
+        let ups = upper.count;
+        if 16 < lows {
+            return Fitted::Refused(Refusal::Bounds);
+        }
+        if 16 < ups {
+            return Fitted::Refused(Refusal::Bounds);
+        }
+        let low = fold(true, Limit::Free, lower);
+        let up = fold(false, Limit::Free, upper);
+        Fitted::Ready(Filter {
+            scan: scan,
+            lower: low,
+            upper: up,
+            state: FilterState::Before,
+        })
+    }
+
+    // The next element that meets the bounds, or none; or refused 1, 2, 3, 6, 8, 7, 9.
+    pub fn next(
+        self,
+        starts: &[i64],
+        ends: &[u64],
+        steps: &[i16],
+        lower: Variables,
+        upper: Variables,
+        inputs: Inputs,
+    ) -> Sifted
+        ensures { λ r. ⌜ siftingOf r ≡ callOf (sourceOf (lent (now (starts .entry)) (now (ends .entry)) (now (steps .entry)))) (record { move = Next; lower = lower; upper = upper; inputs = inputs }) self ⌝ }
+    {
+        let step = Step::Next;
+        let asked = Asked {
+            step,
+            lower,
+            upper,
+            inputs,
+        };
+        sift(self, starts, ends, steps, asked)
+    }
+
+    // The first element from here on that is not below the target and meets the bounds, or none; or refused 1, 2, 3, 6, 8, 7, 9.
+    pub fn seek(
+        self,
+        starts: &[i64],
+        ends: &[u64],
+        steps: &[i16],
+        target: i64,
+        lower: Variables,
+        upper: Variables,
+        inputs: Inputs,
+    ) -> Sifted
+        ensures { λ r. ⌜ siftingOf r ≡ callOf (sourceOf (lent (now (starts .entry)) (now (ends .entry)) (now (steps .entry)))) (record { move = Seek target; lower = lower; upper = upper; inputs = inputs }) self ⌝ }
+    {
+        let step = Step::Seek(target);
+        let asked = Asked {
+            step,
+            lower,
+            upper,
+            inputs,
+        };
+        sift(self, starts, ends, steps, asked)
+    }
+
+    // The element that the filter stands on, or none; or refused 1, 2, 3, 6.
+    pub fn current(self, starts: &[i64], ends: &[u64], steps: &[i16]) -> Answer
+        ensures { λ r. ⌜ saysAnswer r ≡ filterCurrentOf (sourceOf (lent (now (starts .entry)) (now (ends .entry)) (now (steps .entry)))) self ⌝ }
+    {
+        let scan = self.scan;
+        let state = self.state;
+        let checked = check_scan(scan, starts, ends, steps);
+        match checked {
+            Checked::Refused(why) => Answer::Refused(why),
+            Checked::Fine => match state {
+                FilterState::Before => Answer::None,
+                FilterState::Within(_) => current_in(scan, starts, ends, steps),
+                FilterState::After => Answer::None,
+            },
+        }
+    }
+
+    // "reset makes the filter Before and does not touch the scan"
+    pub fn reset(self) -> Filter
+        ensures { λ r. ⌜ r ≡ filterResetOf self ⌝ }
+    {
+        let scan = self.scan;
+        let lower = self.lower;
+        let upper = self.upper;
+        Filter {
+            scan: scan,
+            lower: lower,
+            upper: upper,
+            state: FilterState::Before,
+        }
+    }
 }
