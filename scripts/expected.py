@@ -115,7 +115,30 @@ def scanned():
     return '\n'.join(out) + '\n'
 
 
-PROGRAMS = {'run_only': run_only, 'scanned': scanned}
+def lending():
+    big, least = 2**63 - 1, -2**63
+    out = ['C']
+    s = Log(out, C, Scan(C, 0, 9, 'F'))
+    s.next(), s.next(), s.seek(26), s.seek(12), s.next(), s.reset(), s.next()
+    s.narrow(3, 8), s.next(), s.narrow(0, 10), s.seek(200), s.next(), s.reset(), s.seek(least)
+    out.append('D')
+    s = Log(out, D, Scan(D, 0, 5, 'F'))
+    s.seek(6), s.next(), s.seek(6), s.narrow(1, 5), s.seek(7), s.next(), s.next()
+
+    def each(c, *scan):
+        s = Log(out, c, Scan(c, *scan))
+        s.next(), s.seek(0), s.narrow(0, 1), s.reset()
+
+    out.append('an end above the length, an index outside the window')
+    each(C, 0, 10, 'F')
+    each(C, 2, 4, 4)
+    out.append('damaged')
+    for column in (Column([10], [2, 5], [-5, 1]), Column([10, 6], [2, 2], [-5, 1]), Column([big], [5], [1])):
+        each(column, 1, 3, 2)
+    return '\n'.join(out) + '\n'
+
+
+PROGRAMS = {'run_only': run_only, 'scanned': scanned, 'lending': lending}
 
 
 def main():
