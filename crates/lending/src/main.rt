@@ -1,29 +1,19 @@
 // Call sequences on scans that are lent, one call a line: what it answers, then the window and the state of the scan as it is given back.
 // After a refusal these are as they were lent.
-use loftsplice::scan::Moved;
 use loftsplice::scan::Scan;
 use loftsplice::scan::State;
 use shown::text;
 
-// What a call answered, and the scan that was lent to it.
-fn told(m: Moved) -> Scan {
-    let answer = m.answer;
-    let scan = m.scan;
-    shown::answer(answer);
-    shown::scan(scan);
-    scan
-}
-
 fn next(s: Scan, starts: &[i64], ends: &[u64], steps: &[i16]) -> Scan {
     text(b"next: ");
-    told(lent::lend_next(s, starts, ends, steps))
+    shown::told(lent::lend_next(s, starts, ends, steps))
 }
 
 fn seek(s: Scan, starts: &[i64], ends: &[u64], steps: &[i16], target: i64) -> Scan {
     text(b"seek ");
     shown::signed(target);
     text(b": ");
-    told(lent::lend_seek(s, starts, ends, steps, target))
+    shown::told(lent::lend_seek(s, starts, ends, steps, target))
 }
 
 fn narrow(s: Scan, starts: &[i64], ends: &[u64], steps: &[i16], from: u64, to: u64) -> Scan {
@@ -32,12 +22,12 @@ fn narrow(s: Scan, starts: &[i64], ends: &[u64], steps: &[i16], from: u64, to: u
     text(b"..");
     shown::unsigned(to);
     text(b": ");
-    told(lent::lend_narrow(s, starts, ends, steps, from, to))
+    shown::told(lent::lend_narrow(s, starts, ends, steps, from, to))
 }
 
 fn reset(s: Scan, starts: &[i64], ends: &[u64], steps: &[i16]) -> Scan {
     text(b"reset: ");
-    told(lent::lend_reset(s, starts, ends, steps))
+    shown::told(lent::lend_reset(s, starts, ends, steps))
 }
 
 // On C: forward, never back by a seek, a window in it, and a window that is refused.

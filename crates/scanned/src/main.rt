@@ -1,7 +1,6 @@
 // Call sequences on scans, one call a line: what it answers, then the scan's window and state. Windows inside falling runs, ends within a run,
 // starts beyond the column, the extremes of i64, and scans that are refused.
 use loftsplice::scan::Made;
-use loftsplice::scan::Moved;
 use loftsplice::scan::Scan;
 use loftsplice::scan::State;
 use shown::text;
@@ -26,19 +25,10 @@ fn made(starts: &[i64], ends: &[u64], steps: &[i16]) -> Scan {
     }
 }
 
-// What a call answered, and the scan that it handed back.
-fn told(m: Moved) -> Scan {
-    let answer = m.answer;
-    let scan = m.scan;
-    shown::answer(answer);
-    shown::scan(scan);
-    scan
-}
-
 fn next(s: Scan, starts: &[i64], ends: &[u64], steps: &[i16]) -> Scan {
     let m = s.next(starts, ends, steps);
     text(b"next: ");
-    told(m)
+    shown::told(m)
 }
 
 fn seek(s: Scan, starts: &[i64], ends: &[u64], steps: &[i16], target: i64) -> Scan {
@@ -46,7 +36,7 @@ fn seek(s: Scan, starts: &[i64], ends: &[u64], steps: &[i16], target: i64) -> Sc
     text(b"seek ");
     shown::signed(target);
     text(b": ");
-    told(m)
+    shown::told(m)
 }
 
 fn narrow(s: Scan, starts: &[i64], ends: &[u64], steps: &[i16], from: u64, to: u64) -> Scan {
@@ -56,13 +46,13 @@ fn narrow(s: Scan, starts: &[i64], ends: &[u64], steps: &[i16], from: u64, to: u
     text(b"..");
     shown::unsigned(to);
     text(b": ");
-    told(m)
+    shown::told(m)
 }
 
 fn reset(s: Scan, starts: &[i64], ends: &[u64], steps: &[i16]) -> Scan {
     let m = s.reset(starts, ends, steps);
     text(b"reset: ");
-    told(m)
+    shown::told(m)
 }
 
 fn stands(s: Scan, starts: &[i64], ends: &[u64], steps: &[i16]) {

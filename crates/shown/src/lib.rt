@@ -8,6 +8,7 @@ use loftsplice::rle::Length;
 use loftsplice::rle::Placed;
 use loftsplice::run_length_encodable::Difference;
 use loftsplice::scan::Answer;
+use loftsplice::scan::Moved;
 use loftsplice::scan::Position;
 use loftsplice::scan::Scan;
 use loftsplice::scan::State;
@@ -120,4 +121,13 @@ pub fn scan(s: Scan) {
     text(b" ");
     state(now);
     text(b"\n");
+}
+
+// What a call answered, and the scan that it handed back.
+pub fn told(m: Moved) -> Scan {
+    let a = m.answer;
+    let s = m.scan;
+    answer(a);
+    scan(s);
+    s
 }
