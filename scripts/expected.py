@@ -4,7 +4,7 @@ is compared with what it should be, and a difference fails."""
 import pathlib
 import sys
 
-from model import C, D, Column, Refused, Scan, diff_step
+from model import C, D, Column, Refused, Scan, diff_step, listing
 
 ROOT = pathlib.Path(__file__).resolve().parent.parent
 
@@ -138,7 +138,52 @@ def lending():
     return '\n'.join(out) + '\n'
 
 
-PROGRAMS = {'run_only': run_only, 'scanned': scanned, 'lending': lending}
+def listed():
+    out = []
+    big, least = 2**63 - 1, -2**63
+    damaged = Column([10, 6], [2, 2], [-5, 1])
+
+    def line(c, starts, ends, lower=(), upper=(), room=16, places=8):
+        values, counts = [-7] * room, [99] * places
+        answer = said(lambda: listing(c, starts, ends, list(lower), list(upper), values, counts))
+        out.append(' '.join([answer, '|'] + [str(v) for v in values] + ['|'] + [str(n) for n in counts]))
+
+    inclusive, exclusive = (lambda v: (v, False)), (lambda v: (v, True))
+    out.append('C')
+    line(C, [0], [9])
+    line(C, [0], [9], [exclusive(10)], [inclusive(40)])
+    line(C, [0, 3, 3, 8], [9, 8, 8, 2], [inclusive(25), exclusive(25)], [inclusive(140)])
+    line(C, [0, 0], [9, 9], [], [inclusive(15), exclusive(15)])
+    line(C, [4, 2**64 - 1, 100, 6], [5, 4, 9, 9], [inclusive(31)], [exclusive(240)])
+    line(C, [], [], [exclusive(0)])
+    out.append('D')
+    line(D, [1, 1, 2, 0], [5, 5, 4, 1])
+    line(D, [1, 1, 2], [5, 4, 4], [exclusive(5)], [exclusive(8)])
+    line(D, [1, 0], [5, 2])
+    line(D, [0, 1], [5, 6])
+    out.append('room')
+    line(C, [0, 1], [9, 8], [inclusive(20)], [inclusive(40)], room=10, places=2)
+    line(C, [0, 1], [9, 8], [inclusive(20)], [inclusive(40)], room=9, places=2)
+    line(D, [1], [5], places=1)
+    line(D, [1, 2], [5, 5], places=1)
+    line(D, [0, 0], [6, 5], places=1)
+    line(D, [0, 0], [5, 5], places=1)
+    out.append('too many')
+    line(C, [0, 0], [9])
+    line(C, [0], [10], [inclusive(0)] * 17)
+    line(C, [0], [10], [inclusive(0)] * 16)
+    line(C, [7] * 256, [0] * 256, room=1, places=256)
+    line(C, [7] * 257, [10] * 257, room=1, places=1)
+    out.append('far')
+    far = Column([least, big - 1], [3, 5], [32767, 1])
+    line(far, [0, 1], [5, 4], [inclusive(least)], [inclusive(big)])
+    line(far, [0, 1], [5, 4], [exclusive(least)], [exclusive(big)])
+    out.append('damaged')
+    line(damaged, [0], [99])
+    return '\n'.join(out) + '\n'
+
+
+PROGRAMS = {'run_only': run_only, 'scanned': scanned, 'lending': lending, 'listed': listed}
 
 
 def main():

@@ -218,3 +218,21 @@ class Filter:
 
     def reset(self):
         self.state = 'B'
+
+
+def listing(column, starts, ends, lower, upper, out, counts):
+    """What a fresh scan and a new filter give, window by window into out; how many of each into counts; their sum. 1, 2, 3, 8, 5, 7, 10, each on
+    all windows before the next."""
+    column.check()
+    refuse_if(len(lower) > 16 or len(upper) > 16 or len(starts) > 256 or len(starts) != len(ends), BOUNDS)
+    refuse_if(any(end > column.length for end in ends), WINDOW)
+    refuse_if(not all(column.rises(start, end) for start, end in zip(starts, ends)), ORDER)
+    found = []
+    for start, end in zip(starts, ends):
+        f = Filter(Scan(column, start, end), lower, upper)
+        found.append(list(iter(f.next, None)))
+    total = sum(map(len, found))
+    refuse_if(total > len(out) or len(found) > len(counts), ROOM)
+    out[:total] = [v for values in found for v in values]
+    counts[:len(found)] = [len(values) for values in found]
+    return total

@@ -4,3 +4,7 @@ pub mod BoundCases
 pub mod Readings
 pub mod FilterCases
 pub mod SettleCases
+pub mod Stretches
+pub mod Windows
+pub mod Laying
+pub mod ListingCases

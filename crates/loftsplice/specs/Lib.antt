@@ -3,3 +3,4 @@ pub mod Scan
 pub mod Filter
 pub mod Inner
 pub mod Listing
+pub mod Windows

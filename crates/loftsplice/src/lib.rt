@@ -9,3 +9,4 @@ pub mod run_length_encodable;
 pub mod scan;
 pub mod seeking;
 pub mod sifting;
+pub mod stretch;

@@ -6,3 +6,7 @@ pub mod Rise
 pub mod Walk
 pub mod Crossing
 pub mod Seeks
+pub mod Paste
+pub mod Elements
+pub mod Cuts
+pub mod Writing

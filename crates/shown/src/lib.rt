@@ -1,6 +1,7 @@
 // Answers as text on standard output, for the programs that run examples. What is written is compared with stored text, not proved.
 use checked::Checked;
 use libc::STDOUT_FILENO;
+use loftsplice::listing::Listed;
 use loftsplice::refusal::number;
 use loftsplice::rle::Emptiness;
 use loftsplice::rle::Got;
@@ -130,4 +131,11 @@ pub fn told(m: Moved) -> Scan {
     answer(a);
     scan(s);
     s
+}
+
+pub fn listed(l: Listed) {
+    match l {
+        Listed::Sum(n) => unsigned(n),
+        Listed::Refused(why) => refused(why),
+    }
 }
