@@ -13,8 +13,8 @@ use Rattle.meaning.specs.Sequence.{Sequence, Source, firstNotBelow}
 use Rattle.loftsplice.specs.declared.scan.State.{State}
 use Rattle.loftsplice.specs.declared.scan.State.the-variants.{Fresh, At, Ended}
 use Rattle.loftsplice.specs.declared.scan.Scan.{Scan}
-use Rattle.loftsplice.specs.declared.scan.Answer.{Answer}
-use Rattle.loftsplice.specs.declared.scan.Answer.the-variants.{Value, None, Refused}
+use Rattle.meaning.specs.declared.Answer.{Answer}
+use Rattle.meaning.specs.declared.Answer.the-variants.{Value, None, Refused}
 use Rattle.loftsplice.specs.Scan.{saysAnswer, Outcome, goTo, nextFrom, seekFrom, refuse, nextOf, seekOf, narrowOf, resetOf}
 use Rattle.theorems.specs.Exact.{accepted}
 use Rattle.theorems.proofs.Unique.{one-result, answer-apart}

@@ -23,7 +23,7 @@ use denote.Struct.Struct.{Copies, twices}
 use denote.Struct.Laws as LL
 use denote.Enum.Laws as EL
 use Rattle.loftsplice.specs.declared.scan.Scan.{Scan}
-use Rattle.loftsplice.specs.declared.scan.Answer.{Answer}
+use Rattle.meaning.specs.declared.Answer.{Answer}
 use Rattle.loftsplice.specs.declared.scan.Moved.{Moved}
 use Rattle.loftsplice.proofs.scan.Scan as T
 use Rattle.loftsplice.proofs.scan.Scan.Laws as T′

@@ -5,7 +5,7 @@ use mathlib.Core.List.{List, [], _∷_}
 use lib.IntN.{ℤ}
 use Rattle.meaning.specs.Sequence.{Source}
 use Rattle.loftsplice.specs.declared.scan.Scan.{Scan}
-use Rattle.loftsplice.specs.declared.scan.Answer.{Answer}
+use Rattle.meaning.specs.declared.Answer.{Answer}
 use Rattle.loftsplice.specs.Scan.{saysAnswer, Outcome, outcomeOf, nextOf, seekOf, narrowOf, resetOf}
 
 -- a call that moves a scan, and what it takes beside the column

@@ -3,9 +3,9 @@
 ghost use mathlib.Core.Path.{_≡_};
 ghost use Rattle.meaning.specs.Column.{lent, sourceOf};
 ghost use Rattle.loftsplice.specs.Scan.{saysAnswer, outcomeOf, nextOf, seekOf, narrowOf, resetOf};
-use loftsplice::scan::Answer;
 use loftsplice::scan::Moved;
 use loftsplice::scan::Scan;
+use meaning::Answer;
 
 // The next element, or none; or refused 1, 2, 3, 6: `Scan::next`, where the scan stands.
 pub fn next(scan: &mut Scan, starts: &[i64], ends: &[u64], steps: &[i16]) -> Answer

@@ -1,8 +1,8 @@
 // Batch listings, one a line: the answer, then the whole output and the whole of the counts, so that what a call leaves alone shows too. Windows
 // that repeat, overlap and are empty, bounds of both kinds, and every refusal.
-use loftsplice::filter_interval::Bound;
-use loftsplice::filter_interval::BoundaryType;
-use loftsplice::filter_interval::Bounds;
+use bounds::Bound;
+use bounds::BoundaryType;
+use bounds::Bounds;
 use loftsplice::listing::list;
 use shown::text;
 

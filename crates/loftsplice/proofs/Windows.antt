@@ -13,8 +13,8 @@ use lib.Seq.{take-suc, take-all, length-take-le, getD-set-same, getD-set-other}
 use lib.IntN.{ℤ}
 use Rattle.ranges.specs.Ranges.{allFor, allIn, every}
 use Rattle.meaning.specs.Sequence.{Sequence, elementsIn}
-use Rattle.loftsplice.specs.declared.filter_interval.Limit.{Limit}
-use Rattle.loftsplice.specs.declared.filter_interval.Limit.the-variants.{Free}
+use Rattle.bounds.specs.declared.Limit.{Limit}
+use Rattle.bounds.specs.declared.Limit.the-variants.{Free}
 use Rattle.loftsplice.specs.Listing.{Span, windows, valuesIn, valuesOf, countsOf}
 use Rattle.loftsplice.specs.Windows.{windowAt, Stretched, Trimmed}
 use Rattle.loftsplice.proofs.Stretches.{all-of}

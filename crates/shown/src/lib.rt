@@ -8,11 +8,11 @@ use loftsplice::rle::Got;
 use loftsplice::rle::Length;
 use loftsplice::rle::Placed;
 use loftsplice::run_length_encodable::Difference;
-use loftsplice::scan::Answer;
 use loftsplice::scan::Moved;
 use loftsplice::scan::Position;
 use loftsplice::scan::Scan;
 use loftsplice::scan::State;
+use meaning::Answer;
 use meaning::Refusal;
 
 pub fn text(s: &[u8]) {

@@ -11,14 +11,16 @@ use Rattle.ranges.specs.Ranges.{every}
 use Rattle.ranges.proofs.Bools.{either, and-left, and-false, and-true, and-swap, not-yes, not-not, In, every-at, at-every}
 use Rattle.meaning.specs.Sequence.{Sequence, Source, rises}
 use Rattle.loftsplice.specs.declared.scan.Scan.{Scan}
-use Rattle.loftsplice.specs.declared.filter_interval.Bound.{Bound}
-use Rattle.loftsplice.specs.declared.filter_interval.Limit.{Limit}
-use Rattle.loftsplice.specs.declared.filter_interval.Limit.the-variants.{Free, To}
-use Rattle.loftsplice.specs.declared.filter_interval.FilterState.{FilterState}
-use Rattle.loftsplice.specs.declared.filter_interval.FilterState.the-variants.{Before, Within, After}
-use Rattle.loftsplice.specs.declared.filter_interval.Filter.{Filter}
+use Rattle.bounds.specs.declared.Bound.{Bound}
+use Rattle.bounds.specs.declared.Limit.{Limit}
+use Rattle.bounds.specs.declared.Limit.the-variants.{Free, To}
+use Rattle.filter_interval.specs.declared.FilterState.{FilterState}
+use Rattle.filter_interval.specs.declared.FilterState.the-variants.{Before, Within, After}
+use Rattle.filter_interval.specs.declared.Filter.{Filter}
 use Rattle.loftsplice.specs.Scan.{Outcome, fresh, seekFrom, badScan}
-use Rattle.loftsplice.specs.Filter.{isExclusive, found, variables, readable, asRead, Next, Seek, Call, past, arrive, raised, lowerOf, upperOf, moveScan, accepts, settle, stepFrom, tooMany, unread, callOf, newFilter}
+use Rattle.bounds.specs.Bounds.{isExclusive, variables, readable, asRead}
+use Rattle.loftsplice.specs.Lead.{found}
+use Rattle.filter_interval.specs.Filter.{Next, Seek, Call, past, arrive, raised, lowerOf, upperOf, moveScan, accepts, settle, stepFrom, tooMany, unread, callOf, newFilter}
 use Rattle.theorems.specs.Exact.{accepted, soundSource, allReadable}
 use Rattle.theorems.specs.Demand3.{answersOf, answers, allLower, allUpper}
 use Rattle.theorems.specs.Runs.{risingWindow, acceptable}

@@ -15,9 +15,9 @@ use Rattle.ranges.proofs.Bools.{and-left, In}
 use Rattle.meaning.specs.Refusals.{Gives}
 use Rattle.meaning.specs.Sequence.{Source, rises}
 use Rattle.meaning.specs.Column.{Column, sizeOf, sequenceOf, sound, sourceOf}
-use Rattle.loftsplice.specs.declared.filter_interval.Bound.{Bound}
+use Rattle.bounds.specs.declared.Bound.{Bound}
 use Rattle.loftsplice.specs.Scan.{fresh, newOf, seekOf}
-use Rattle.loftsplice.specs.Filter.{Move, Next, Seek, Call, newFilter}
+use Rattle.filter_interval.specs.Filter.{Move, Next, Seek, Call, newFilter}
 use Rattle.theorems.specs.Exact.{accepted}
 use Rattle.theorems.specs.Demand3.{answers, moves, allLower, allUpper, meetsAll, tied, counts, expectedFrom, expected}
 use Rattle.theorems.specs.Runs.{scanAnswers, anything, risingWindow}

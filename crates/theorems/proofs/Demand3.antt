@@ -19,10 +19,10 @@ use Rattle.ranges.proofs.Bools.{either, and-left, same-after}
 use Rattle.ranges.proofs.Spans.{First, first-known, first-none, lt-or-ge}
 use Rattle.meaning.specs.Refusals.{Said, Gives}
 use Rattle.meaning.specs.Sequence.{Sequence, Source}
-use Rattle.loftsplice.specs.declared.filter_interval.Bound.{Bound}
-use Rattle.loftsplice.specs.declared.filter_interval.Filter.{Filter}
+use Rattle.bounds.specs.declared.Bound.{Bound}
+use Rattle.filter_interval.specs.declared.Filter.{Filter}
 use Rattle.loftsplice.specs.Scan.{fresh}
-use Rattle.loftsplice.specs.Filter.{Move, Call, callOf, newFilter}
+use Rattle.filter_interval.specs.Filter.{Move, Call, callOf, newFilter}
 use Rattle.theorems.specs.Exact.{accepted}
 use Rattle.theorems.specs.Demand3.{answersOf, answers, moves, allLower, allUpper, meetsAll, tied, answerAt, counts, expectedFrom, expected}
 use Rattle.theorems.specs.Runs.{letThrough, noneStays, isNext, suchElements, listing, walk, kept, only}

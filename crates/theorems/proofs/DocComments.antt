@@ -15,10 +15,11 @@ use Rattle.meaning.specs.Sequence.{Sequence, Source}
 use Rattle.loftsplice.specs.declared.scan.State.{State}
 use Rattle.loftsplice.specs.declared.scan.State.the-variants.{Fresh, At, Ended}
 use Rattle.loftsplice.specs.declared.scan.Scan.{Scan}
-use Rattle.loftsplice.specs.declared.filter_interval.Bounds.{Bounds}
-use Rattle.loftsplice.specs.declared.filter_interval.Filter.{Filter}
+use Rattle.bounds.specs.declared.Bounds.{Bounds}
+use Rattle.filter_interval.specs.declared.Filter.{Filter}
 use Rattle.loftsplice.specs.Scan.{Outcome, fresh, put, nextFrom, seekFrom, elementIn, indexIn, badScan, outside, newOf, nextOf, seekOf, narrowOf, resetOf, currentOf, posOf}
-use Rattle.loftsplice.specs.Filter.{Next, Seek, bounds, newFilter, fitOf, filterResetOf}
+use Rattle.bounds.specs.Bounds.{bounds}
+use Rattle.filter_interval.specs.Filter.{Next, Seek, newFilter, fitOf, filterResetOf}
 use Rattle.theorems.specs.Exact.{accepted}
 use Rattle.theorems.specs.Runs.{standsIn, standing}
 use Rattle.theorems.proofs.Reading.{none-given}

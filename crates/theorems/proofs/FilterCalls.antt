@@ -14,13 +14,14 @@ use Rattle.meaning.specs.declared.Refusal.the-variants.{Order, Bounds as OverBo
 use Rattle.meaning.specs.Refusals.{Said, Gives, Number, nothing, also}
 use Rattle.meaning.specs.Sequence.{Sequence, Source, rises}
 use Rattle.loftsplice.specs.declared.scan.Scan.{Scan}
-use Rattle.loftsplice.specs.declared.filter_interval.Limit.{Limit}
-use Rattle.loftsplice.specs.declared.filter_interval.Bounds.{Bounds}
-use Rattle.loftsplice.specs.declared.filter_interval.FilterState.{FilterState}
-use Rattle.loftsplice.specs.declared.filter_interval.FilterState.the-variants.{Before, Within, After}
-use Rattle.loftsplice.specs.declared.filter_interval.Filter.{Filter}
+use Rattle.bounds.specs.declared.Limit.{Limit}
+use Rattle.bounds.specs.declared.Bounds.{Bounds}
+use Rattle.filter_interval.specs.declared.FilterState.{FilterState}
+use Rattle.filter_interval.specs.declared.FilterState.the-variants.{Before, Within, After}
+use Rattle.filter_interval.specs.declared.Filter.{Filter}
 use Rattle.loftsplice.specs.Scan.{Outcome, badScan}
-use Rattle.loftsplice.specs.Filter.{Call, Sifting, bounds, newFilter, accepts, settle, stepFrom, tooMany, unread, onFilter, refuseCall, fitOf, callOf, filterCurrentOf, upperOf, lowerOf, raised, arrive, moveScan}
+use Rattle.bounds.specs.Bounds.{bounds}
+use Rattle.filter_interval.specs.Filter.{Call, Sifting, newFilter, accepts, settle, stepFrom, tooMany, unread, onFilter, refuseCall, fitOf, callOf, filterCurrentOf, upperOf, lowerOf, raised, arrive, moveScan}
 use Rattle.theorems.specs.Exact.{earlier, accepted, soundSource, allReadable}
 use Rattle.theorems.proofs.Reading.{reading, either-below}
 use Rattle.theorems.proofs.Exactly.{Speaks, plainly, exact, accepted-exactly, refused-is, accepted-is, OfScan, scan-tests}

@@ -20,16 +20,17 @@ use Rattle.meaning.specs.Sequence.{Sequence, rises, firstNotBelow}
 use Rattle.loftsplice.specs.declared.scan.State.{State}
 use Rattle.loftsplice.specs.declared.scan.State.the-variants.{Fresh, At, Ended}
 use Rattle.loftsplice.specs.declared.scan.Scan.{Scan}
-use Rattle.loftsplice.specs.declared.filter_interval.BoundaryType.{BoundaryType}
-use Rattle.loftsplice.specs.declared.filter_interval.BoundaryType.the-variants.{Inclusive, Exclusive}
-use Rattle.loftsplice.specs.declared.filter_interval.Bound.{Bound}
-use Rattle.loftsplice.specs.declared.filter_interval.Limit.{Limit}
-use Rattle.loftsplice.specs.declared.filter_interval.Limit.the-variants.{Free, To}
-use Rattle.loftsplice.specs.declared.filter_interval.FilterState.{FilterState}
-use Rattle.loftsplice.specs.declared.filter_interval.FilterState.the-variants.{Before, Within, After}
-use Rattle.loftsplice.specs.declared.filter_interval.Filter.{Filter}
+use Rattle.bounds.specs.declared.BoundaryType.{BoundaryType}
+use Rattle.bounds.specs.declared.BoundaryType.the-variants.{Inclusive, Exclusive}
+use Rattle.bounds.specs.declared.Bound.{Bound}
+use Rattle.bounds.specs.declared.Limit.{Limit}
+use Rattle.bounds.specs.declared.Limit.the-variants.{Free, To}
+use Rattle.filter_interval.specs.declared.FilterState.{FilterState}
+use Rattle.filter_interval.specs.declared.FilterState.the-variants.{Before, Within, After}
+use Rattle.filter_interval.specs.declared.Filter.{Filter}
 use Rattle.loftsplice.specs.Scan.{fresh, put, goTo, nextFrom, seekFrom}
-use Rattle.loftsplice.specs.Filter.{Sifting, inclusive, greater, meetsLower, within, Move, Next, Seek, Call, past, arrive, raised, moveScan, settle, stepFrom, above}
+use Rattle.bounds.specs.Bounds.{inclusive, greater, meetsLower, within, above}
+use Rattle.filter_interval.specs.Filter.{Sifting, Move, Next, Seek, Call, past, arrive, raised, moveScan, settle, stepFrom}
 use Rattle.theorems.specs.Demand3.{moves, earliest, answerAt, expectedFrom}
 use Rattle.theorems.proofs.Bounds.{lower-two}
 use Rattle.theorems.proofs.Expected.{nones, over-run}

@@ -7,11 +7,12 @@ use lib.IntN.{ℤ}
 use Rattle.ranges.specs.Ranges.{every}
 use Rattle.ranges.proofs.Bools.{and-left, and-right}
 use Rattle.meaning.specs.Sequence.{Sequence, Source, rises}
-use Rattle.loftsplice.specs.declared.filter_interval.Bound.{Bound}
-use Rattle.loftsplice.specs.declared.filter_interval.Limit.{Limit}
-use Rattle.loftsplice.specs.declared.filter_interval.Filter.{Filter}
+use Rattle.bounds.specs.declared.Bound.{Bound}
+use Rattle.bounds.specs.declared.Limit.{Limit}
+use Rattle.filter_interval.specs.declared.Filter.{Filter}
 use Rattle.loftsplice.specs.Scan.{fresh}
-use Rattle.loftsplice.specs.Filter.{fold, greater, lesser, greatest, least, meetsLower, inputs, variables, asRead, Call, stepFrom, callOf, newFilter}
+use Rattle.bounds.specs.Bounds.{fold, greater, lesser, greatest, least, meetsLower, inputs, variables, asRead}
+use Rattle.filter_interval.specs.Filter.{Call, stepFrom, callOf, newFilter}
 use Rattle.theorems.specs.Exact.{accepted}
 use Rattle.theorems.specs.Demand3.{answersOf, answers, moves, allLower, allUpper, meetsAll, tied, counts, expectedFrom}
 use Rattle.theorems.specs.Runs.{letThrough}

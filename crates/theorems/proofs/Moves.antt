@@ -18,7 +18,7 @@ use Rattle.loftsplice.specs.declared.scan.State.{State}
 use Rattle.loftsplice.specs.declared.scan.State.the-variants.{Fresh, At, Ended}
 use Rattle.loftsplice.specs.declared.scan.Scan.{Scan}
 use Rattle.loftsplice.specs.Scan.{Outcome, fresh, put, goTo, nextFrom, seekFrom, badScan, outside}
-use Rattle.loftsplice.specs.Filter.{Move, Next, Seek, moveScan}
+use Rattle.filter_interval.specs.Filter.{Move, Next, Seek, moveScan}
 use Rattle.theorems.specs.Runs.{standsIn}
 
 -- ---- to an index, or to the end

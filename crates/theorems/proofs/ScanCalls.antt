@@ -16,7 +16,7 @@ use Rattle.loftsplice.specs.declared.scan.State.{State}
 use Rattle.loftsplice.specs.declared.scan.State.the-variants.{Fresh, At, Ended}
 use Rattle.loftsplice.specs.declared.scan.Scan.{Scan}
 use Rattle.loftsplice.specs.Scan.{Outcome, fresh, goTo, nextFrom, seekFrom, elementIn, indexIn, badScan, onScan, onRising, refuse, newOf, nextOf, seekOf, narrowOf, resetOf, currentOf, posOf}
-use Rattle.loftsplice.specs.Filter.{Move, Next, Seek, moveScan}
+use Rattle.filter_interval.specs.Filter.{Move, Next, Seek, moveScan}
 use Rattle.theorems.specs.Exact.{earlier, accepted, soundSource}
 use Rattle.theorems.specs.Runs.{scanMove, allowedScan}
 use Rattle.theorems.proofs.Reading.{reading, same-test}

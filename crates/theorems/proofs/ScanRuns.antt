@@ -20,7 +20,7 @@ use Rattle.loftsplice.specs.declared.scan.State.{State}
 use Rattle.loftsplice.specs.declared.scan.State.the-variants.{Fresh, At, Ended}
 use Rattle.loftsplice.specs.declared.scan.Scan.{Scan}
 use Rattle.loftsplice.specs.Scan.{Outcome, fresh, put, goTo, nextFrom, seekFrom, badScan, seekOf}
-use Rattle.loftsplice.specs.Filter.{Move, Next, Seek, moveScan}
+use Rattle.filter_interval.specs.Filter.{Move, Next, Seek, moveScan}
 use Rattle.loftsplice.specs.Listing.{those}
 use Rattle.theorems.specs.Exact.{accepted, soundSource}
 use Rattle.theorems.specs.Demand3.{earliest, answerAt, expectedFrom}

@@ -8,7 +8,8 @@ use Rattle.meaning.specs.Sequence.{rises}
 use Rattle.meaning.specs.Column.{endBefore, runOf, elementAt, shapeOk, endOk, endsOk, runOk, reachOk}
 use Rattle.meaning.specs.Calls.{diffStepOf, checkOf, placeOf, getOf}
 use Rattle.loftsplice.specs.Scan.{goTo, nextFrom, seekFrom, badScan, newOf, nextOf, seekOf, narrowOf, resetOf, currentOf, posOf}
-use Rattle.loftsplice.specs.Filter.{less, fold, meetsUpper, readable, asRead, past, arrive, settle, stepFrom, fitOf, callOf, filterCurrentOf}
+use Rattle.bounds.specs.Bounds.{less, fold, meetsUpper, readable, asRead}
+use Rattle.filter_interval.specs.Filter.{past, arrive, settle, stepFrom, fitOf, callOf, filterCurrentOf}
 use Rattle.theorems.specs.Table.{Row, table, endsFrom, saids, left, sifts, times}
 
 pub examples : map (λ (r : Row). r .got) table ≡ map (λ (r : Row). r .want) table

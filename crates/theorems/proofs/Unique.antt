@@ -25,22 +25,22 @@ use Rattle.loftsplice.specs.declared.rle.Placed.the-variants.{At as PlacedAt, R
 use Rattle.loftsplice.specs.declared.rle.Got.{Got}
 use Rattle.loftsplice.specs.declared.rle.Got.the-variants.{Value as GotValue, Refused as GotRefused}
 use Rattle.loftsplice.specs.declared.scan.Scan.{Scan}
-use Rattle.loftsplice.specs.declared.scan.Answer.{Answer}
-use Rattle.loftsplice.specs.declared.scan.Answer.the-variants.{Value, None, Refused}
+use Rattle.meaning.specs.declared.Answer.{Answer}
+use Rattle.meaning.specs.declared.Answer.the-variants.{Value, None, Refused}
 use Rattle.loftsplice.specs.declared.scan.Position.{Position}
 use Rattle.loftsplice.specs.declared.scan.Position.the-variants.{Index as AtIndex, None as NoIndex, Refused as PositionRefused}
 use Rattle.loftsplice.specs.declared.scan.Made.{Made}
 use Rattle.loftsplice.specs.declared.scan.Made.the-variants.{Ready as MadeReady, Refused as MadeRefused}
 use Rattle.loftsplice.specs.declared.scan.Moved.{Moved}
-use Rattle.loftsplice.specs.declared.filter_interval.Filter.{Filter}
-use Rattle.loftsplice.specs.declared.filter_interval.Bounds.{Bounds}
-use Rattle.loftsplice.specs.declared.filter_interval.Fitted.{Fitted}
-use Rattle.loftsplice.specs.declared.filter_interval.Fitted.the-variants.{Ready as FittedReady, Refused as FittedRefused}
-use Rattle.loftsplice.specs.declared.filter_interval.Sifted.{Sifted}
+use Rattle.filter_interval.specs.declared.Filter.{Filter}
+use Rattle.bounds.specs.declared.Bounds.{Bounds}
+use Rattle.filter_interval.specs.declared.Fitted.{Fitted}
+use Rattle.filter_interval.specs.declared.Fitted.the-variants.{Ready as FittedReady, Refused as FittedRefused}
+use Rattle.filter_interval.specs.declared.Sifted.{Sifted}
 use Rattle.checked.specs.Says.{saysChecked}
 use Rattle.loftsplice.specs.Says.{saysDifference, saysLength, saysEmptiness, saysPlaced, saysGot}
 use Rattle.loftsplice.specs.Scan.{saysAnswer, saysPosition, saysMade, outcomeOf, newOf, nextOf, seekOf, narrowOf, resetOf, currentOf, posOf}
-use Rattle.loftsplice.specs.Filter.{Call, saysFitted, siftingOf, fitOf, callOf, filterCurrentOf, filterResetOf}
+use Rattle.filter_interval.specs.Filter.{Call, saysFitted, siftingOf, fitOf, callOf, filterCurrentOf, filterResetOf}
 
 -- ---- the law
 

@@ -9,9 +9,9 @@ use lib.Signed.{ltZ}
 use Rattle.ranges.proofs.Order.{lt-trans}
 use Rattle.ranges.proofs.Spans.{in-all}
 use Rattle.meaning.specs.Sequence.{Sequence, rises}
-use Rattle.loftsplice.specs.declared.filter_interval.Limit.{Limit}
-use Rattle.loftsplice.specs.declared.filter_interval.Limit.the-variants.{Free, To}
-use Rattle.loftsplice.specs.Filter.{within, above}
+use Rattle.bounds.specs.declared.Limit.{Limit}
+use Rattle.bounds.specs.declared.Limit.the-variants.{Free, To}
+use Rattle.bounds.specs.Bounds.{within, above}
 use Rattle.theorems.proofs.Bounds.{lower-up, upper-down}
 
 module _ (q : Sequence) (s e : ℕ) (rise : rises q s e ≡ true) where

@@ -10,8 +10,9 @@ use lib.Signed.{ltZ}
 use Rattle.meaning.specs.Refusals.{Said}
 use Rattle.meaning.specs.Sequence.{Sequence, Source}
 use Rattle.loftsplice.specs.declared.scan.Scan.{Scan}
-use Rattle.loftsplice.specs.declared.filter_interval.Bound.{Bound}
-use Rattle.loftsplice.specs.Filter.{found, Seek, Call, tooMany}
+use Rattle.bounds.specs.declared.Bound.{Bound}
+use Rattle.loftsplice.specs.Lead.{found}
+use Rattle.filter_interval.specs.Filter.{Seek, Call, tooMany}
 use Rattle.theorems.specs.Demand3.{meetsAll}
 use Rattle.theorems.specs.Runs.{scanAnswers}
 

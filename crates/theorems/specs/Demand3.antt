@@ -9,10 +9,11 @@ use lib.Signed.{ltZ}
 use Rattle.ranges.specs.Ranges.{firstFrom, every, someOf}
 use Rattle.meaning.specs.Refusals.{Said, Gives}
 use Rattle.meaning.specs.Sequence.{Sequence, Source}
-use Rattle.loftsplice.specs.declared.filter_interval.Bound.{Bound}
-use Rattle.loftsplice.specs.declared.filter_interval.Filter.{Filter}
+use Rattle.bounds.specs.declared.Bound.{Bound}
+use Rattle.filter_interval.specs.declared.Filter.{Filter}
 use Rattle.loftsplice.specs.Scan.{fresh}
-use Rattle.loftsplice.specs.Filter.{isExclusive, meetsLower, meetsUpper, inputs, variables, asRead, Move, Next, Seek, Call, newFilter, callOf}
+use Rattle.bounds.specs.Bounds.{isExclusive, meetsLower, meetsUpper, inputs, variables, asRead}
+use Rattle.filter_interval.specs.Filter.{Move, Next, Seek, Call, newFilter, callOf}
 
 -- ---- a run of calls
 

@@ -12,12 +12,13 @@ use Rattle.meaning.specs.Sequence.{Sequence, Source, rises, elementsIn}
 use Rattle.loftsplice.specs.declared.scan.State.{State}
 use Rattle.loftsplice.specs.declared.scan.State.the-variants.{Fresh, At, Ended}
 use Rattle.loftsplice.specs.declared.scan.Scan.{Scan}
-use Rattle.loftsplice.specs.declared.filter_interval.Bound.{Bound}
-use Rattle.loftsplice.specs.declared.filter_interval.Limit.{Limit}
-use Rattle.loftsplice.specs.declared.filter_interval.Limit.the-variants.{Free, To}
-use Rattle.loftsplice.specs.declared.filter_interval.Filter.{Filter}
+use Rattle.bounds.specs.declared.Bound.{Bound}
+use Rattle.bounds.specs.declared.Limit.{Limit}
+use Rattle.bounds.specs.declared.Limit.the-variants.{Free, To}
+use Rattle.filter_interval.specs.declared.Filter.{Filter}
 use Rattle.loftsplice.specs.Scan.{Outcome, badScan, nextOf, seekOf}
-use Rattle.loftsplice.specs.Filter.{meetsLower, meetsUpper, tooMany, Move, Next, Seek, Call, callOf}
+use Rattle.bounds.specs.Bounds.{meetsLower, meetsUpper}
+use Rattle.filter_interval.specs.Filter.{tooMany, Move, Next, Seek, Call, callOf}
 use Rattle.loftsplice.specs.Listing.{those}
 use Rattle.theorems.specs.Exact.{accepted, soundSource, allReadable}
 use Rattle.theorems.specs.Demand3.{allLower, allUpper, meetsAll, bothWays}

@@ -10,21 +10,21 @@ use Rattle.meaning.specs.Column.{Column, lent, sizeOf, sourceOf}
 use Rattle.meaning.specs.Calls.{Place, diffStepOf, checkOf, placeOf, getOf}
 use Rattle.loftsplice.specs.declared.scan.State.the-variants.{At}
 use Rattle.loftsplice.specs.declared.scan.Scan.{Scan}
-use Rattle.loftsplice.specs.declared.scan.Answer.{Answer}
-use Rattle.loftsplice.specs.declared.scan.Answer.the-variants.{Value, None}
-use Rattle.loftsplice.specs.declared.filter_interval.BoundaryType.{BoundaryType}
-use Rattle.loftsplice.specs.declared.filter_interval.BoundaryType.the-variants.{Inclusive, Exclusive}
-use Rattle.loftsplice.specs.declared.filter_interval.Bound.{Bound}
-use Rattle.loftsplice.specs.declared.filter_interval.Bounds.{Bounds}
-use Rattle.loftsplice.specs.declared.filter_interval.Variable.{Variable}
-use Rattle.loftsplice.specs.declared.filter_interval.Variables.{Variables}
-use Rattle.loftsplice.specs.declared.filter_interval.Inputs.{Inputs}
-use Rattle.loftsplice.specs.declared.filter_interval.Limit.the-variants.{Free}
-use Rattle.loftsplice.specs.declared.filter_interval.FilterState.{FilterState}
-use Rattle.loftsplice.specs.declared.filter_interval.FilterState.the-variants.{After}
-use Rattle.loftsplice.specs.declared.filter_interval.Filter.{Filter}
+use Rattle.meaning.specs.declared.Answer.{Answer}
+use Rattle.meaning.specs.declared.Answer.the-variants.{Value, None}
+use Rattle.bounds.specs.declared.BoundaryType.{BoundaryType}
+use Rattle.bounds.specs.declared.BoundaryType.the-variants.{Inclusive, Exclusive}
+use Rattle.bounds.specs.declared.Bound.{Bound}
+use Rattle.bounds.specs.declared.Bounds.{Bounds}
+use Rattle.bounds.specs.declared.Variable.{Variable}
+use Rattle.bounds.specs.declared.Variables.{Variables}
+use Rattle.bounds.specs.declared.Inputs.{Inputs}
+use Rattle.bounds.specs.declared.Limit.the-variants.{Free}
+use Rattle.filter_interval.specs.declared.FilterState.{FilterState}
+use Rattle.filter_interval.specs.declared.FilterState.the-variants.{After}
+use Rattle.filter_interval.specs.declared.Filter.{Filter}
 use Rattle.loftsplice.specs.Scan.{Outcome, fresh, put, newOf, nextOf, seekOf, narrowOf, resetOf, currentOf, posOf}
-use Rattle.loftsplice.specs.Filter.{Move, Next, Seek, Call, Sifting, fitOf, callOf, filterCurrentOf, filterResetOf}
+use Rattle.filter_interval.specs.Filter.{Move, Next, Seek, Call, Sifting, fitOf, callOf, filterCurrentOf, filterResetOf}
 
 -- ---- columns, from "runs (start, step, length)"
 

@@ -50,7 +50,7 @@ use denote.Exit.{yes}
 use Rattle.meaning.specs.Sequence.{Source}
 use Rattle.meaning.specs.Column.{lent, sourceOf}
 use Rattle.loftsplice.specs.declared.scan.Scan.{Scan}
-use Rattle.loftsplice.specs.declared.scan.Answer.{Answer}
+use Rattle.meaning.specs.declared.Answer.{Answer}
 use Rattle.loftsplice.specs.declared.scan.Moved.{Moved}
 use Rattle.loftsplice.proofs.scan.Scan as T
 use Rattle.loftsplice.proofs.scan.Scan.Laws as T′

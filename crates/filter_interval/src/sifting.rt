@@ -1,0 +1,231 @@
+// One call on a filter: what next and seek share. The bounds are read first, the scan is led once, and its answer settles the filter.
+ghost use mathlib.Core.Path.{_≡_};
+ghost use mathlib.Core.Bool.{false, _||_};
+ghost use lib.Dec.{ltb};
+ghost use Rattle.meaning.specs.Column.{lent, sourceOf};
+ghost use Rattle.loftsplice.specs.Scan.{outcomeOf};
+ghost use Rattle.loftsplice.specs.Lead.{leadOf};
+ghost use Rattle.filter_interval.specs.declared.FilterState.the-variants.{Before};
+ghost use Rattle.filter_interval.specs.Filter.{siftingOf, raised, unread, callOf};
+ghost use Rattle.filter_interval.specs.Inner.{moveOf, callFor, stepLead, leadTo, leadFor, upFor, settled};
+use crate::Filter;
+use crate::FilterState;
+use crate::Sifted;
+use bounds::Bound;
+use bounds::BoundaryType;
+use bounds::Inputs;
+use bounds::Limit;
+use bounds::Reading;
+use bounds::Variables;
+use bounds::choose;
+use bounds::is_exclusive;
+use bounds::meets_upper;
+use bounds::read;
+use loftsplice::leading::Lead;
+use loftsplice::leading::led;
+use loftsplice::scan::Moved;
+use meaning::Answer;
+
+// next, or seek with a target
+pub(crate) enum Step {
+    Next,
+    Seek(i64),
+}
+
+// Where a call leads the scan, and the limit above that is then to be met; where a bound was not read these say nothing.
+struct Asked {
+    unread: bool,
+    lead: Lead,
+    upper: Limit,
+}
+
+// 8: "over 16 bounds in a list, over 8 inputs"
+fn too_many(lows: usize, ups: usize, ins: usize) -> bool
+    ensures { λ r. ⌜ r ≡ (ltb 16 lows || ltb 16 ups || ltb 8 ins) ⌝ }
+{
+    if 16 < lows {
+        return true;
+    }
+    if 16 < ups {
+        return true;
+    }
+    8 < ins
+}
+
+// seek: "the lower bound, if any, is first raised to the inclusive target where that is greater in the order"
+fn raise(step: Step, low: Limit) -> Limit
+    ensures { λ r. ⌜ r ≡ raised (moveOf step) low ⌝ }
+{
+    match step {
+        Step::Next => low,
+        Step::Seek(target) => match low {
+            Limit::Free => Limit::Free,
+            Limit::To(bound) => {
+                let inclusive = Bound {
+                    boundary: BoundaryType::Inclusive,
+                    value: target,
+                };
+                Limit::To(choose(true, bound, inclusive))
+            }
+        },
+    }
+}
+
+// "with a lower bound, the scan seeks its value, and moves on once more if that bound is exclusive ..; without one, the scan does next"
+fn lead_to(low: Limit) -> Lead
+    ensures { λ r. ⌜ r ≡ leadTo low ⌝ }
+{
+    match low {
+        Limit::Free => Lead::Next,
+        Limit::To(bound) => {
+            let edge = bound.value;
+            let boundary = bound.boundary;
+            if is_exclusive(boundary) {
+                return Lead::Past(edge);
+            }
+            Lead::Seek(edge)
+        }
+    }
+}
+
+// "the scan does next or seek"
+fn step_lead(step: Step) -> Lead
+    ensures { λ r. ⌜ r ≡ stepLead (moveOf step) ⌝ }
+{
+    match step {
+        Step::Next => Lead::Next,
+        Step::Seek(target) => Lead::Seek(target),
+    }
+}
+
+// Before: the folded constants with the variable bounds as read.
+fn begin(filter: Filter, step: Step, lower: Variables, upper: Variables, inputs: Inputs) -> Asked
+    ensures told { λ r. ⌜ r .unread ≡ unread (callFor step lower upper inputs) Before ⌝ }
+    ensures lead { λ r. ⌜ (unread (callFor step lower upper inputs) Before ≡ false → r .lead ≡ leadFor (callFor step lower upper inputs) filter Before) ⌝ }
+    ensures up { λ r. ⌜ (unread (callFor step lower upper inputs) Before ≡ false → r .upper ≡ upFor (callFor step lower upper inputs) filter Before) ⌝ }
+{
+    let low = filter.lower;
+    let up = filter.upper;
+    let first = read(true, low, lower, inputs);
+    let second = read(false, up, upper, inputs);
+    let Reading::As(below) = first else {
+        return Asked {
+            unread: true,
+            lead: Lead::Stay,
+            upper: up,
+        };
+    };
+    let Reading::As(above) = second else {
+        return Asked {
+            unread: true,
+            lead: Lead::Stay,
+            upper: up,
+        };
+    };
+    let raised = raise(step, below);
+    Asked {
+        unread: false,
+        lead: lead_to(raised),
+        upper: above,
+    }
+}
+
+// Before: by the bounds as read; Within: by the kept bound; "After stays and moves nothing".
+fn ask(filter: Filter, step: Step, lower: Variables, upper: Variables, inputs: Inputs) -> Asked
+    ensures told { λ r. ⌜ r .unread ≡ unread (callFor step lower upper inputs) (filter .state) ⌝ }
+    ensures lead { λ r. ⌜ (unread (callFor step lower upper inputs) (filter .state) ≡ false → r .lead ≡ leadFor (callFor step lower upper inputs) filter (filter .state)) ⌝ }
+    ensures up { λ r. ⌜ (unread (callFor step lower upper inputs) (filter .state) ≡ false → r .upper ≡ upFor (callFor step lower upper inputs) filter (filter .state)) ⌝ }
+{
+    let state = filter.state;
+    match state {
+        FilterState::Before => begin(filter, step, lower, upper, inputs),
+        FilterState::Within(kept) => Asked {
+            unread: false,
+            lead: step_lead(step),
+            upper: kept,
+        },
+        FilterState::After => Asked {
+            unread: false,
+            lead: Lead::Stay,
+            upper: Limit::Free,
+        },
+    }
+}
+
+// "If the scan is at an element within the upper bound, the filter is Within and keeps that upper bound; else After." A refusal leaves it as it was.
+fn settle(filter: Filter, up: Limit, moved: Moved) -> Sifted
+    ensures { λ r. ⌜ siftingOf r ≡ settled filter up (outcomeOf moved) ⌝ }
+{
+    let lower = filter.lower;
+    let upper = filter.upper;
+    let scan = moved.scan;
+    let answer = moved.answer;
+    if let Answer::Refused(why) = answer {
+        return Sifted {
+            filter,
+            answer: Answer::Refused(why),
+        };
+    }
+    if let Answer::Value(value) = answer {
+        if meets_upper(value, up) {
+            return Sifted {
+                filter: Filter {
+                    scan: scan,
+                    lower: lower,
+                    upper: upper,
+                    state: FilterState::Within(up),
+                },
+                answer: Answer::Value(value),
+            };
+        }
+    }
+    Sifted {
+        filter: Filter {
+            scan: scan,
+            lower: lower,
+            upper: upper,
+            state: FilterState::After,
+        },
+        answer: Answer::None,
+    }
+}
+
+// The scan is led once, and its answer settles the filter.
+fn lead_on(
+    filter: Filter,
+    starts: &[i64],
+    ends: &[u64],
+    steps: &[i16],
+    many: bool,
+    asked: Asked,
+) -> Sifted
+    ensures { λ r. ⌜ siftingOf r ≡ settled filter (asked .upper) (leadOf (sourceOf (lent (now (starts .entry)) (now (ends .entry)) (now (steps .entry)))) many (asked .unread) (asked .lead) (filter .scan)) ⌝ }
+{
+    let scan = filter.scan;
+    let unread = asked.unread;
+    let lead = asked.lead;
+    let up = asked.upper;
+    let moved = led(scan, starts, ends, steps, many, unread, lead);
+    settle(filter, up, moved)
+}
+
+// One call: refused 1, 2, 3, 6, 8, 7, 9, or one step.
+pub(crate) fn sift(
+    filter: Filter,
+    starts: &[i64],
+    ends: &[u64],
+    steps: &[i16],
+    step: Step,
+    lower: Variables,
+    upper: Variables,
+    inputs: Inputs,
+) -> Sifted
+    ensures { λ r. ⌜ siftingOf r ≡ callOf (sourceOf (lent (now (starts .entry)) (now (ends .entry)) (now (steps .entry)))) (callFor step lower upper inputs) filter ⌝ }
+{
+    let lows = lower.count;
+    let ups = upper.count;
+    let ins = inputs.count;
+    let many = too_many(lows, ups, ins);
+    let asked = ask(filter, step, lower, upper, inputs);
+    lead_on(filter, starts, ends, steps, many, asked)
+}
