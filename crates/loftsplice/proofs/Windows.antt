@@ -21,13 +21,13 @@ use Rattle.loftsplice.proofs.Stretches.{all-of}
 
 -- ---- the list of windows
 
-windows-length : (ss es : List ℕ) → length ss ≡ length es → length (windows ss es) ≡ length ss
+pub windows-length : (ss es : List ℕ) → length ss ≡ length es → length (windows ss es) ≡ length ss
 unfolding windows
 windows-length [] es e = refl
 windows-length (s ∷ ss) [] e = sym e
 windows-length (s ∷ ss) (t ∷ es) e = ap suc (windows-length ss es (omega arith))
 
-window-there : (ss es : List ℕ) (k : ℕ) (z : Span) → length ss ≡ length es → k < length ss → getD (windows ss es) k z ≡ windowAt ss es k
+pub window-there : (ss es : List ℕ) (k : ℕ) (z : Span) → length ss ≡ length es → k < length ss → getD (windows ss es) k z ≡ windowAt ss es k
 unfolding windows
 window-there [] es k z e l = absurd (omega arith)
 window-there (s ∷ ss) [] k z e l = absurd (omega arith)

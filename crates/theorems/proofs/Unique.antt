@@ -2,7 +2,7 @@
 use Prim.Native.Nat.{ℕ, _-_}
 use mathlib.Core.Path.{_≡_, refl, sym, ap, _∙_}
 use mathlib.Core.Bool.{true, false}
-use mathlib.Core.List.{[], _∷_}
+use mathlib.Core.List.{List, [], _∷_}
 use mathlib.Core.Option.{Option, some, none}
 use lib.ListN.{getD}
 use lib.IntN.{ℤ}
@@ -37,9 +37,12 @@ use Rattle.loftsplice.specs.declared.filter_interval.Bounds.{Bounds}
 use Rattle.loftsplice.specs.declared.filter_interval.Fitted.{Fitted}
 use Rattle.loftsplice.specs.declared.filter_interval.Fitted.the-variants.{Ready as FittedReady, Refused as FittedRefused}
 use Rattle.loftsplice.specs.declared.filter_interval.Sifted.{Sifted}
+use Rattle.loftsplice.specs.declared.listing.Listed.{Listed}
+use Rattle.loftsplice.specs.declared.listing.Listed.the-variants.{Sum, Refused as ListedRefused}
 use Rattle.checked.specs.Says.{saysChecked}
 use Rattle.loftsplice.specs.Says.{saysDifference, saysLength, saysEmptiness, saysPlaced, saysGot}
 use Rattle.loftsplice.specs.Scan.{saysAnswer, saysPosition, saysMade, outcomeOf, newOf, nextOf, seekOf, narrowOf, resetOf, currentOf, posOf}
+use Rattle.loftsplice.specs.Listing.{saysListed, listOf}
 use Rattle.loftsplice.specs.Filter.{Call, saysFitted, siftingOf, fitOf, callOf, filterCurrentOf, filterResetOf}
 
 -- ---- the law
@@ -108,6 +111,9 @@ placed-apart = undone saysPlaced (answering (λ x. PlacedAt (x .run) (x .offset)
 
 pub got-apart : Injective saysGot
 got-apart = undone saysGot (answering GotValue GotRefused) (elim [ GotValue v ↦ refl | GotRefused w ↦ ap GotRefused (refusal-is w) ])
+
+pub listed-apart : Injective saysListed
+listed-apart = undone saysListed (answering Sum ListedRefused) (elim [ Sum n ↦ refl | ListedRefused w ↦ ap ListedRefused (refusal-is w) ])
 
 pub made-apart : Injective saysMade
 made-apart = undone saysMade (answering MadeReady MadeRefused) (elim [ MadeReady s ↦ refl | MadeRefused w ↦ ap MadeRefused (refusal-is w) ])
@@ -186,6 +192,14 @@ module _ (p : Source) where
 
     pub filter-current-one : (x y : Answer) → saysAnswer x ≡ filterCurrentOf p f → saysAnswer y ≡ filterCurrentOf p f → x ≡ y
     filter-current-one = one-result saysAnswer answer-apart
+
+  pub list-one : (ss es : List ℕ) (lows ups : Bounds) (out counts : ℕ) (x y : Listed)
+      → saysListed x ≡ listOf p ss es lows ups out counts → saysListed y ≡ listOf p ss es lows ups out counts → x ≡ y
+  list-one ss es lows ups out counts = one-result saysListed listed-apart
+
+-- an array's content is promised itself
+pub content-one : {A : Type 0} (left x y : List A) → x ≡ left → y ≡ left → x ≡ y
+content-one left = one-result (λ x. x) (λ x y e. e)
 
 -- reset promises its result itself
 pub filter-reset-one : (f x y : Filter) → x ≡ filterResetOf f → y ≡ filterResetOf f → x ≡ y

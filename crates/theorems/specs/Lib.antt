@@ -3,3 +3,4 @@ pub mod Demand3
 pub mod Runs
 pub mod Audit
 pub mod Table
+pub mod Batch
