@@ -70,6 +70,11 @@ module _ (b : Batch) (h : accepted (answer b) ≡ true) where
 
   -- ---- one window
 
+  -- "each window is handed the rest of the output, from where the last one stopped": the first begins at place 0,
+  pub first-begins : begin b 0 ≡ 0
+  unfolding total
+  first-begins = refl
+
   module _ (k : ℕ) (l : k < length (b .starts)) where
     there : k < length (spans b)
     there = rw (windows-length (b .starts) (b .ends) paired) l
@@ -80,11 +85,11 @@ module _ (b : Batch) (h : accepted (answer b) ≡ true) where
     own-span : getD (spans b) k (span b k) ≡ span b k
     own-span = window-there (b .starts) (b .ends) k (span b k) paired l
 
-    -- "each window is handed the rest of the output, from where the last one stopped": window 0 begins at place 0,
+    -- and the one after window k where its part stops;
     pub next-begins : begin b (suc k) ≡ begin b k + count b k
     next-begins = total-more (countsAfter b) k
 
-    -- and what stands there is all of the window's elements that meet the folded bounds, "listed in full"
+    -- what stands there is all of its elements that meet the folded bounds, in order: "listed in full"
     pub part-is : part b k ≡ those (meetsFolded b) (elements b k)
     unfolding valuesIn
     part-is =

@@ -42,8 +42,9 @@ use Rattle.loftsplice.specs.declared.listing.Listed.the-variants.{Sum, Refused 
 use Rattle.checked.specs.Says.{saysChecked}
 use Rattle.loftsplice.specs.Says.{saysDifference, saysLength, saysEmptiness, saysPlaced, saysGot}
 use Rattle.loftsplice.specs.Scan.{saysAnswer, saysPosition, saysMade, outcomeOf, newOf, nextOf, seekOf, narrowOf, resetOf, currentOf, posOf}
-use Rattle.loftsplice.specs.Listing.{saysListed, listOf}
+use Rattle.loftsplice.specs.Listing.{saysListed}
 use Rattle.loftsplice.specs.Filter.{Call, saysFitted, siftingOf, fitOf, callOf, filterCurrentOf, filterResetOf}
+use Rattle.theorems.specs.Batch.{Batch, answer, outAfter, countsAfter}
 
 -- ---- the law
 
@@ -193,13 +194,16 @@ module _ (p : Source) where
     pub filter-current-one : (x y : Answer) → saysAnswer x ≡ filterCurrentOf p f → saysAnswer y ≡ filterCurrentOf p f → x ≡ y
     filter-current-one = one-result saysAnswer answer-apart
 
-  pub list-one : (ss es : List ℕ) (lows ups : Bounds) (out counts : ℕ) (x y : Listed)
-      → saysListed x ≡ listOf p ss es lows ups out counts → saysListed y ≡ listOf p ss es lows ups out counts → x ≡ y
-  list-one ss es lows ups out counts = one-result saysListed listed-apart
+-- the batch listing: its answer, and the content of both arrays, each promised as it is
+module _ (b : Batch) where
+  pub list-one : (x y : Listed) → saysListed x ≡ answer b → saysListed y ≡ answer b → x ≡ y
+  list-one = one-result saysListed listed-apart
 
--- an array's content is promised itself
-pub content-one : {A : Type 0} (left x y : List A) → x ≡ left → y ≡ left → x ≡ y
-content-one left = one-result (λ x. x) (λ x y e. e)
+  pub list-out-one : (x y : List ℤ) → x ≡ outAfter b → y ≡ outAfter b → x ≡ y
+  list-out-one = one-result (λ x. x) (λ x y e. e)
+
+  pub list-counts-one : (x y : List ℕ) → x ≡ countsAfter b → y ≡ countsAfter b → x ≡ y
+  list-counts-one = one-result (λ x. x) (λ x y e. e)
 
 -- reset promises its result itself
 pub filter-reset-one : (f x y : Filter) → x ≡ filterResetOf f → y ≡ filterResetOf f → x ≡ y
