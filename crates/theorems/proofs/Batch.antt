@@ -110,6 +110,7 @@ module _ (b : Batch) (h : accepted (answer b) ≡ true) where
     part-meets-all t =
         part-is ∙ ap (λ (f : ℤ → Bool). those f (elements b k)) (through (bounds (b .lower)) (bounds (b .upper)) ∙ untied (bounds (b .lower)) (bounds (b .upper)) t)
 
+    -- it rises, within a sound column
     pub span-rises : risingWindow (b .source) (span b k .start) (span b k .end) ≡ true
     unfolding risingWindow
     span-rises =

@@ -25,7 +25,7 @@ unfolding total
 total-more [] zero = refl
 total-more [] (suc k) = refl
 total-more (n ∷ ns) zero = omega arith
-total-more (n ∷ ns) (suc k) = rw (total-more ns k) (omega arith)
+total-more (n ∷ ns) (suc k) = omega (arith, total-more ns k)
 
 module _ (q : Sequence) (low up : Limit) where
   -- there are as many values as the counts say
