@@ -9,7 +9,6 @@ use Rattle.ranges.specs.Ranges.{someOf}
 use Rattle.meaning.specs.declared.Refusal.{Refusal}
 use Rattle.meaning.specs.declared.Refusal.the-variants.{Window, Order, Bounds as OverBounds, Room}
 use Rattle.meaning.specs.Refusals.{Gives, Number}
-use Rattle.meaning.specs.Outputs.{after}
 use Rattle.loftsplice.specs.Listing.{onListing, listOf}
 use Rattle.loftsplice.proofs.ListingCases.{left-as-was, left-filled}
 use Rattle.theorems.specs.Exact.{earlier, accepted, soundSource}
