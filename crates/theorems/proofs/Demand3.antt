@@ -18,11 +18,12 @@ use Rattle.ranges.specs.Ranges.{firstFrom, every}
 use Rattle.ranges.proofs.Bools.{either, and-left, same-after}
 use Rattle.ranges.proofs.Spans.{First, first-known, first-none, lt-or-ge}
 use Rattle.meaning.specs.Refusals.{Said, Gives}
-use Rattle.meaning.specs.Sequence.{Sequence, Source}
+use Rattle.meaning.specs.Sequence.{Sequence, Source, elementsIn}
 use Rattle.bounds.specs.declared.Bound.{Bound}
 use Rattle.filter_interval.specs.declared.Filter.{Filter}
 use Rattle.loftsplice.specs.Scan.{fresh}
 use Rattle.filter_interval.specs.Filter.{Move, Call, callOf, newFilter}
+use Rattle.loftsplice.specs.Listing.{those}
 use Rattle.theorems.specs.Exact.{accepted}
 use Rattle.theorems.specs.Demand3.{answersOf, answers, moves, allLower, allUpper, meetsAll, tied, answerAt, counts, expectedFrom, expected}
 use Rattle.theorems.specs.Runs.{letThrough, noneStays, isNext, suchElements, listing, walk, kept, only}
@@ -66,20 +67,27 @@ module _ (p : Source) (start end : ℕ) (lows ups : List Bound) (k : Call) (ks :
   pub none-stays : every accepted (answers p start end lows ups k ks) ≡ true → noneStays (answers p start end lows ups k ks) ≡ true
   none-stays acc = rw (answers-at-any-bounds acc) (stays-none (p .sequence) end (letThrough (allLower lows k) (allUpper ups k)) start start asked)
 
-  -- "Next alone lists every such element once, in order."
-  pub next-alone-lists : every accepted (answers p start end lows ups k ks) ≡ true → tied (allUpper ups k) ≡ false → every isNext (moves (k ∷ ks)) ≡ true
-      → answers p start end lows ups k ks ≡ listing (length (k ∷ ks)) such
-  unfolding expected every
-  next-alone-lists acc t h =
-      let meets = meetsAll (allLower lows k) (allUpper ups k) in
-      answers-are-expected acc t
+  -- Next alone, with a tie or without one: it lists what is let through.
+  pub next-alone-lists-at-any-bounds : every accepted (answers p start end lows ups k ks) ≡ true → every isNext (moves (k ∷ ks)) ≡ true
+      → answers p start end lows ups k ks ≡ listing (length (k ∷ ks)) (those (letThrough (allLower lows k) (allUpper ups k)) (elementsIn (p .sequence) start end))
+  unfolding every
+  next-alone-lists-at-any-bounds acc h =
+      let meets = letThrough (allLower lows k) (allUpper ups k) in
+      answers-at-any-bounds acc
       ∙ ap (λ (m : Move). expectedFrom (p .sequence) end meets start start (m ∷ moves ks)) (still (allLower lows k))
       ∙ nexts-list (p .sequence) end meets start start (moves (k ∷ ks)) h
-      ∙ ap (λ (n : ℕ). listing (suc n) such) (length-map ks (λ (k : Call). k .move))
+      ∙ ap (λ (n : ℕ). listing (suc n) (those meets (elementsIn (p .sequence) start end))) (length-map ks (λ (k : Call). k .move))
     where
       still : (ls : List Bound) → counts ls (k .move) ≡ k .move
       still [] = sym (is-next (k .move) (and-left (isNext (k .move)) (every isNext (moves ks)) h))
       still (b ∷ bs) = refl
+
+  -- "Next alone lists every such element once, in order."
+  pub next-alone-lists : every accepted (answers p start end lows ups k ks) ≡ true → tied (allUpper ups k) ≡ false → every isNext (moves (k ∷ ks)) ≡ true
+      → answers p start end lows ups k ks ≡ listing (length (k ∷ ks)) such
+  next-alone-lists acc t h =
+      next-alone-lists-at-any-bounds acc h
+      ∙ ap (λ (meets : ℤ → Bool). listing (length (k ∷ ks)) (those meets (elementsIn (p .sequence) start end))) (untied (allLower lows k) (allUpper ups k) t)
 
 -- "none exactly if there is no such element": of each index that `earliest` is made of, whatever is looked for
 pub none-exactly-if : (q : Sequence) (wanted : ℕ → Bool) (a end : ℕ)

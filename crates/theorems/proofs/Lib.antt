@@ -4,6 +4,7 @@ pub mod Exactly
 pub mod ColumnCalls
 pub mod ScanCalls
 pub mod FilterCalls
+pub mod ListingCalls
 pub mod Columns
 pub mod Moves
 pub mod DocComments
@@ -18,3 +19,5 @@ pub mod ScanRuns
 pub mod Seeks
 pub mod Audit
 pub mod Table
+pub mod Parts
+pub mod Batch

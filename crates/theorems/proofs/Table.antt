@@ -4,16 +4,17 @@ use mathlib.Core.List.{map}
 use Rattle.ranges.specs.Ranges.{allFor, firstFor, every}
 use Rattle.keys.specs.Widths.{fitsIn}
 use Rattle.meaning.specs.Refusals.{tried}
-use Rattle.meaning.specs.Sequence.{rises}
+use Rattle.meaning.specs.Sequence.{rises, elementsFor}
 use Rattle.meaning.specs.Column.{endBefore, runOf, elementAt, shapeOk, endOk, endsOk, runOk, reachOk}
 use Rattle.meaning.specs.Calls.{diffStepOf, checkOf, placeOf, getOf}
 use Rattle.loftsplice.specs.Scan.{goTo, nextFrom, seekFrom, badScan, newOf, nextOf, seekOf, narrowOf, resetOf, currentOf, posOf}
-use Rattle.bounds.specs.Bounds.{less, fold, meetsUpper, readable, asRead}
+use Rattle.bounds.specs.Bounds.{less, fold, meetsLower, meetsUpper, readable, asRead}
 use Rattle.filter_interval.specs.Filter.{past, arrive, settle, stepFrom, fitOf, callOf, filterCurrentOf}
+use Rattle.loftsplice.specs.Listing.{windows, those, valuesIn, valuesOf, countsOf, listOf}
 use Rattle.theorems.specs.Table.{Row, table, endsFrom, saids, left, sifts, times}
 
 pub examples : map (λ (r : Row). r .got) table ≡ map (λ (r : Row). r .want) table
 unfolding allFor firstFor every fitsIn tried rises endBefore runOf elementAt shapeOk endOk endsOk runOk reachOk diffStepOf checkOf placeOf getOf
     goTo nextFrom seekFrom badScan newOf nextOf seekOf narrowOf resetOf currentOf posOf less fold meetsUpper readable asRead past arrive settle stepFrom fitOf callOf filterCurrentOf
-    endsFrom saids left sifts times
+    elementsFor meetsLower windows those valuesIn valuesOf countsOf listOf endsFrom saids left sifts times
 examples = refl

@@ -2,7 +2,7 @@
 use Prim.Native.Nat.{ℕ, _-_}
 use mathlib.Core.Path.{_≡_, refl, sym, ap, _∙_}
 use mathlib.Core.Bool.{true, false}
-use mathlib.Core.List.{[], _∷_}
+use mathlib.Core.List.{List, [], _∷_}
 use mathlib.Core.Option.{Option, some, none}
 use lib.ListN.{getD}
 use lib.IntN.{ℤ}
@@ -37,10 +37,14 @@ use Rattle.bounds.specs.declared.Bounds.{Bounds}
 use Rattle.filter_interval.specs.declared.Fitted.{Fitted}
 use Rattle.filter_interval.specs.declared.Fitted.the-variants.{Ready as FittedReady, Refused as FittedRefused}
 use Rattle.filter_interval.specs.declared.Sifted.{Sifted}
+use Rattle.loftsplice.specs.declared.listing.Listed.{Listed}
+use Rattle.loftsplice.specs.declared.listing.Listed.the-variants.{Sum, Refused as ListedRefused}
 use Rattle.checked.specs.Says.{saysChecked}
 use Rattle.loftsplice.specs.Says.{saysDifference, saysLength, saysEmptiness, saysPlaced, saysGot}
 use Rattle.loftsplice.specs.Scan.{saysAnswer, saysPosition, saysMade, outcomeOf, newOf, nextOf, seekOf, narrowOf, resetOf, currentOf, posOf}
+use Rattle.loftsplice.specs.Listing.{saysListed}
 use Rattle.filter_interval.specs.Filter.{Call, saysFitted, siftingOf, fitOf, callOf, filterCurrentOf, filterResetOf}
+use Rattle.theorems.specs.Batch.{Batch, answer, outAfter, countsAfter}
 
 -- ---- the law
 
@@ -108,6 +112,9 @@ placed-apart = undone saysPlaced (answering (λ x. PlacedAt (x .run) (x .offset)
 
 pub got-apart : Injective saysGot
 got-apart = undone saysGot (answering GotValue GotRefused) (elim [ GotValue v ↦ refl | GotRefused w ↦ ap GotRefused (refusal-is w) ])
+
+pub listed-apart : Injective saysListed
+listed-apart = undone saysListed (answering Sum ListedRefused) (elim [ Sum n ↦ refl | ListedRefused w ↦ ap ListedRefused (refusal-is w) ])
 
 pub made-apart : Injective saysMade
 made-apart = undone saysMade (answering MadeReady MadeRefused) (elim [ MadeReady s ↦ refl | MadeRefused w ↦ ap MadeRefused (refusal-is w) ])
@@ -186,6 +193,17 @@ module _ (p : Source) where
 
     pub filter-current-one : (x y : Answer) → saysAnswer x ≡ filterCurrentOf p f → saysAnswer y ≡ filterCurrentOf p f → x ≡ y
     filter-current-one = one-result saysAnswer answer-apart
+
+-- the batch listing: its answer, and the content of both arrays, each promised as it is
+module _ (b : Batch) where
+  pub list-one : (x y : Listed) → saysListed x ≡ answer b → saysListed y ≡ answer b → x ≡ y
+  list-one = one-result saysListed listed-apart
+
+  pub list-out-one : (x y : List ℤ) → x ≡ outAfter b → y ≡ outAfter b → x ≡ y
+  list-out-one = one-result (λ x. x) (λ x y e. e)
+
+  pub list-counts-one : (x y : List ℕ) → x ≡ countsAfter b → y ≡ countsAfter b → x ≡ y
+  list-counts-one = one-result (λ x. x) (λ x y e. e)
 
 -- reset promises its result itself
 pub filter-reset-one : (f x y : Filter) → x ≡ filterResetOf f → y ≡ filterResetOf f → x ≡ y

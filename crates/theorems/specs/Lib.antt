@@ -2,4 +2,5 @@ pub mod Exact
 pub mod Demand3
 pub mod Runs
 pub mod Audit
+pub mod Batch
 pub mod Table

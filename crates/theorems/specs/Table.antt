@@ -25,6 +25,7 @@ use Rattle.filter_interval.specs.declared.FilterState.the-variants.{After}
 use Rattle.filter_interval.specs.declared.Filter.{Filter}
 use Rattle.loftsplice.specs.Scan.{Outcome, fresh, put, newOf, nextOf, seekOf, narrowOf, resetOf, currentOf, posOf}
 use Rattle.filter_interval.specs.Filter.{Move, Next, Seek, Call, Sifting, fitOf, callOf, filterCurrentOf, filterResetOf}
+use Rattle.theorems.specs.Batch.{Batch, answer, outAfter, countsAfter}
 
 -- ---- columns, from "runs (start, step, length)"
 
@@ -66,6 +67,8 @@ pub data Seen : Type 0 where
   scanned : List (Said (Option ℤ)) → Said (Option ℕ) → Seen
   -- what a filter said, call by call
   filtered : List (Said (Option ℤ)) → Seen
+  -- what a listing answered, and what it left in the output and in the counts
+  listed : Said ℕ → List ℤ → List ℕ → Seen
 
 -- a call on a scan, which is put in numbers that are not below 0
 pub data Act : Type 0 where
@@ -133,6 +136,12 @@ filter c lows ups as′ = onFitted (sourceOf c) (fitOf (fresh 0 (sizeOf c)) lows
 -- on a filter without bounds, in a state
 abbrev pub filterIn : Column → FilterState → List FilterAct → Seen
 filterIn c t as′ = filtered (sifts (sourceOf c) as′ (record { scan = fresh 0 (sizeOf c); lower = Free; upper = Free; state = t }))
+
+-- a listing of windows, given by their starts and ends
+abbrev pub list : Column → List ℕ → List ℕ → Bounds → Bounds → List ℤ → List ℕ → Seen
+list c ss es lows ups out counts =
+    let b : Batch = record { source = sourceOf c; starts = ss; ends = es; lower = lows; upper = ups; out = out; counts = counts } in
+    listed (answer b) (outAfter b) (countsAfter b)
 
 -- lists by value: all of a list's items count
 abbrev pub these : List Bound → Bounds
@@ -284,4 +293,11 @@ table =
     ∷ own (filter C (these []) (these []) (look ∷ call Next ∷ look ∷ again ∷ look ∷ call Next ∷ []))
     (filtered (nothing ∷ value 10 ∷ value 10 ∷ nothing ∷ nothing ∷ value 15 ∷ []))
     ∷ own (filter C (these (bound Inclusive 1 ∷ [])) (these []) (call Next ∷ again ∷ call Next ∷ [])) (filtered (value 10 ∷ nothing ∷ value 10 ∷ []))
+    -- C above 25 and at most 140, windows 0..9, 3..8, 3..8 again and 8..2: one place of the output and one of the counts are left over
+    ∷ own (list C (0 ∷ 3 ∷ 3 ∷ 8 ∷ []) (9 ∷ 8 ∷ 8 ∷ 2 ∷ []) (these (bound Exclusive 25 ∷ [])) (these (bound Inclusive 140 ∷ [])) (map pos (1 ∷ 2 ∷ 3 ∷ 4 ∷ 5 ∷ 6 ∷ 7 ∷ 8 ∷ 9 ∷ 10 ∷ 11 ∷ 12 ∷ 13 ∷ [])) (1 ∷ 2 ∷ 3 ∷ 4 ∷ 5 ∷ []))
+    (listed (Gives 12) (map pos (30 ∷ 31 ∷ 40 ∷ 140 ∷ 30 ∷ 31 ∷ 40 ∷ 140 ∷ 30 ∷ 31 ∷ 40 ∷ 140 ∷ 13 ∷ [])) (4 ∷ 4 ∷ 4 ∷ 0 ∷ 5 ∷ []))
+    -- D, window 1..5: four values, with room for four and for three; window 0..2, which doesn't rise, after it
+    ∷ own (list D (1 ∷ []) (5 ∷ []) (these []) (these []) (map pos (1 ∷ 2 ∷ 3 ∷ 4 ∷ [])) (9 ∷ [])) (listed (Gives 4) (map pos (5 ∷ 6 ∷ 7 ∷ 8 ∷ [])) (4 ∷ []))
+    ∷ own (list D (1 ∷ []) (5 ∷ []) (these []) (these []) (map pos (1 ∷ 2 ∷ 3 ∷ [])) (9 ∷ [])) (listed (Number 10) (map pos (1 ∷ 2 ∷ 3 ∷ [])) (9 ∷ []))
+    ∷ own (list D (1 ∷ 0 ∷ []) (5 ∷ 2 ∷ []) (these []) (these []) (map pos (1 ∷ 2 ∷ [])) (9 ∷ [])) (listed (Number 7) (map pos (1 ∷ 2 ∷ [])) (9 ∷ []))
     ∷ []

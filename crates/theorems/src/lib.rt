@@ -1,12 +1,14 @@
 // Theorems about the definitions: the words in specs/, the theorems in proofs/, no code. Nothing is assumed.
 //
-// Read first specs/Demand3 and proofs/Demand3 (demand 3), then specs/Audit and proofs/Audit (the auditor's theorem).
+// Read first specs/Demand3 and proofs/Demand3 (demand 3), then specs/Audit and proofs/Audit (the auditor's theorem), then specs/Batch and
+// proofs/Batch (the batch listing).
 //
 // The words, specs/:
 //   Exact         "Given exactly if": the refusals before one, an accepted answer, a sound source
 //   Demand3       a run of calls on a new filter, every bound as read, and what the calls are to answer
 //   Runs          more of runs: none stays, lists and walks, a tie, runs on a scan, which runs are acceptable
 //   Audit         record numbers that are sought in a presence column, and the list of filled logs
+//   Batch         one listing, what it leaves in its two arrays, and the part of the output that each window has
 //   Table         P1 to P12, and rows of our own
 //
 // The theorems, proofs/:
@@ -14,12 +16,14 @@
 //   AcceptedRuns  a run on a new filter is accepted exactly if it is acceptable
 //   Audit         a number is answered with itself exactly if it is in the column; the filled logs are those that lack it; through a filter
 //   ScanRuns      runs on one scan: nothing is stepped past, next alone gives every element, all answer what is expected
+//   Batch         a window's part of the output is what next alone gives; its count; the sum; what is left alone; windows that repeat
 //   Table         the table's one theorem, computed
 //   Unique        two results that meet one promise are equal, a line a call
 //   Exactly       "Given exactly if" of any call: what refuses, what is accepted, what a refusal leaves
 //   ColumnCalls   the same of each call on a column, a line a call and refusal
 //   ScanCalls     of each call on a scan
 //   FilterCalls   of each call on a filter
+//   ListingCalls  of the batch listing
 //   DocComments   the Rust's doc comments, sentence by sentence
 //   Columns       each index lies in one run, every element fits, short windows rise
 //   Bounds        the folded bound is met exactly if every bound is, but for a tie
@@ -32,3 +36,4 @@
 //   FilterRuns    runs of steps on a filter: each call lands at an index, and the upper bound decides
 //   Folded        a run of accepted calls is its steps, and goes by its two folded bounds
 //   Seeks         numbers that are sought in rising order, each as if it were sought alone
+//   Parts         windows that are listed one after the other: the values and the count of each
