@@ -4,7 +4,7 @@ is compared with what it should be, and a difference fails."""
 import pathlib
 import sys
 
-from model import C, D, Column, Refused, Scan, diff_step
+from model import C, D, Column, Refused, Scan, diff_step, read
 
 ROOT = pathlib.Path(__file__).resolve().parent.parent
 
@@ -138,7 +138,74 @@ def lending():
     return '\n'.join(out) + '\n'
 
 
-PROGRAMS = {'run_only': run_only, 'scanned': scanned, 'lending': lending}
+def stored():
+    out = []
+    big, least = 2**63 - 1, -2**63
+    one = bytes.fromhex('10 00 00 00 01 00 0A 00 00 00 00 00 00 00 FB FF 02 00 00 00')
+
+    def held(starts, ends, steps):
+        return ''.join(f' ({s},{e},{d})' for s, e, d in zip(starts, ends, steps))
+
+    def reading(name, data, *rooms):
+        arrays = [[7, 7], [7, 7], [7, 7]]
+        try:
+            column, used = read(data, rooms)
+            for array, new in zip(arrays, (column.starts, column.ends, column.steps)):
+                array[:len(new)] = new
+            answer = f'{len(column.ends)} runs, {used} bytes used'
+        except Refused as r:
+            answer = f'refused {r.number}'
+        out.append(name + answer + held(*arrays))
+
+    def writing(name, column, room):
+        array = bytearray([0xEE] * room)
+        try:
+            record = column.write(room)
+            array[:len(record)] = record
+            answer = f'{len(record)} bytes'
+        except Refused as r:
+            answer = f'refused {r.number}'
+        out.append(name + answer + ''.join(f' {b:02x}' for b in array))
+
+    writing('one run (10,-5,2): ', Column([10], [2], [-5]), 24)
+    writing('', Column([10], [2], [-5]), 20)
+    writing('', Column([10], [2], [-5]), 19)
+    writing('no runs: ', Column([], [], []), 8)
+    writing('lengths differ: ', Column([1, 2], [1], [0]), 4)
+    writing('an end of 0: ', Column([1], [0], [0]), 4)
+    writing('out of reach: ', Column([big], [2], [1]), 4)
+    out.append('read:')
+    reading('', one, 2, 2, 2)
+    reading('', one, 1, 1, 1)
+    reading('', one, 0, 2, 2)
+    reading('', one, 2, 0, 2)
+    reading('', one, 2, 2, 0)
+    for k in range(len(one)):
+        reading(f'cut after {k}: ', one[:k], 2, 2, 2)
+    reading('with bytes after it: ', one + bytes([9, 9, 9]), 2, 1, 2)
+    reading('no runs: ', bytes([2, 0, 0, 0, 1, 0, 9]), 0, 0, 0)
+
+    def record(size, kind, *rs):
+        body = b''.join(s.to_bytes(8, 'little', signed=True) + d.to_bytes(2, 'little', signed=True) + n.to_bytes(4, 'little') for s, d, n in rs)
+        return size.to_bytes(4, 'little') + kind.to_bytes(2, 'little') + body
+
+    for size in (1, 3, 57346, 57347):
+        reading(f'length {size}: ', record(size, 1) + b'\0', 2, 2, 2)
+    for name, data in (
+            ('kind 2', record(16, 2, (10, -5, 2))), ('kind 257', record(16, 257, (10, -5, 2))), ('run length 0', record(16, 1, (10, -5, 0))),
+            ('run lengths 4294967295 and 1', record(30, 1, (0, 0, 4294967295), (least, -1, 1))),
+            ('out of reach, then run length 0', record(30, 1, (least, -1, 2), (0, 0, 0))), ('out of reach', record(30, 1, (least, -1, 2), (0, 0, 1)))):
+        reading(f'{name}: ', data, 2, 2, 2)
+    many = Column([least] * 4096, list(range(1, 4097)), [-32768] * 4096)
+    data = many.write(57350)
+    back, used = read(data, (4096, 4096, 4096))
+    out.append(f'4096 runs: {len(data)} bytes')
+    out.append(f'{len(back.ends)} runs, {used} bytes used' + held(back.starts[-1:], back.ends[-1:], back.steps[-1:]))
+    out.append(f'{len(back.write(57350))} bytes, ' + ('the same' if back.write(57350) == data else 'others'))
+    return '\n'.join(out) + '\n'
+
+
+PROGRAMS = {'run_only': run_only, 'scanned': scanned, 'lending': lending, 'stored': stored}
 
 
 def main():

@@ -1,4 +1,5 @@
 pub mod Judging
+pub mod Tried
 pub mod Runs
 pub mod Soundness
 pub mod Calls
@@ -6,3 +7,5 @@ pub mod Rise
 pub mod Walk
 pub mod Crossing
 pub mod Seeks
+pub mod Parts
+pub mod Unique
