@@ -10,8 +10,8 @@ use lib.ListN.{length}
 use Rattle.ranges.proofs.Bools.{or-left, or-right, or-true}
 use Rattle.meaning.specs.declared.Refusal.the-variants.{Cut, Kind, Size}
 use Rattle.meaning.specs.Refusals.{Said, Gives, Number, Trial, tried}
-use Rattle.meaning.proofs.Judging.{Clear}
-use Rattle.meaning.proofs.Tried.{clear-gives, gives-clear}
+use Rattle.meaning.proofs.Judging.{Clear, gives-clear}
+use Rattle.meaning.proofs.Tried.{clear-gives}
 use Rattle.codec.specs.Record.{lengthIn, kindIn, runsIn}
 
 abbrev pub headTrials : List ℕ → List Trial

@@ -12,8 +12,7 @@ use Rattle.meaning.specs.declared.Refusal.the-variants.{Ends, Reach, Room}
 use Rattle.meaning.specs.Refusals.{Said, Gives, Number, fine, Trial, tried}
 use Rattle.meaning.specs.Column.{endsOk, reachOk}
 use Rattle.meaning.specs.Calls.{checkOf}
-use Rattle.meaning.proofs.Judging.{columnFirst, clear-tried, refused-first, passed, sound-first}
-use Rattle.meaning.proofs.Tried.{refused-before}
+use Rattle.meaning.proofs.Judging.{columnFirst, clear-tried, refused-before, refused-first, passed, sound-first}
 use Rattle.codec.specs.Record.{lengthIn, runsIn, columnTo, columnIn, Found, readOf}
 use Rattle.codec.proofs.Opening.{headTrials, openOf, Opens, opens}
 use Rattle.codec.proofs.Columns.{shape-fine}

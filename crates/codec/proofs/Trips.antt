@@ -16,8 +16,8 @@ use Rattle.meaning.specs.Refusals.{Gives, Number}
 use Rattle.meaning.specs.Column.{Column, lent, startOf, endOf, stepOf, endBefore, runs, endsOk, reachOk, sound}
 use Rattle.meaning.specs.Parts.{joined}
 use Rattle.meaning.proofs.Calls.{check-fine}
-use Rattle.meaning.proofs.Judging.{Clear}
-use Rattle.meaning.proofs.Tried.{clear-front, clear-gives, gives-clear}
+use Rattle.meaning.proofs.Judging.{Clear, gives-clear}
+use Rattle.meaning.proofs.Tried.{clear-front, clear-gives}
 use Rattle.meaning.proofs.Parts.{joined-length, joined-from, each-is}
 use Rattle.meaning.proofs.Runs.{before-zero, before-suc}
 use Rattle.meaning.proofs.Soundness.{Sound, sound-parts}
