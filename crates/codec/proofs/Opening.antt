@@ -1,27 +1,16 @@
 -- A record's first five tests, which look at its length and its kind alone. Assumes nothing.
 use Prim.Native.Nat.{ℕ, _+_, _-_, _*_, _/_, _%_, _≤_, _<_}
 use mathlib.Core.Path.{_≡_, refl, sym, _∙_}
-use mathlib.Core.Bool.{not, _||_}
-use mathlib.Core.List.{List, [], _∷_}
+use mathlib.Core.List.{List}
 use native.Mathlib.Omega.{arith}
 use borrow.Author.Tests.{lt-ltb, le-ltb, ltb-false, eq-eqb, ne-eqb, eqb-true, not-false}
 use lib.Dec.{ltb, eqb}
 use lib.ListN.{length}
 use Rattle.ranges.proofs.Bools.{or-left, or-right, or-true}
-use Rattle.meaning.specs.declared.Refusal.the-variants.{Cut, Kind, Size}
-use Rattle.meaning.specs.Refusals.{Said, Gives, Number, Trial, tried}
+use Rattle.meaning.specs.Refusals.{Said, Gives, Number, tried}
 use Rattle.meaning.proofs.Judging.{Clear, gives-clear}
 use Rattle.meaning.proofs.Tried.{clear-gives}
-use Rattle.codec.specs.Record.{lengthIn, kindIn, runsIn}
-
-abbrev pub headTrials : List ℕ → List Trial
-headTrials bytes =
-    record { why = Cut; holds = ltb (length bytes) 4 }
-    ∷ record { why = Size; holds = ltb (lengthIn bytes) 2 || ltb 57346 (lengthIn bytes) }
-    ∷ record { why = Cut; holds = ltb (length bytes) (4 + lengthIn bytes) }
-    ∷ record { why = Kind; holds = not (eqb (kindIn bytes) 1) }
-    ∷ record { why = Size; holds = not (eqb ((lengthIn bytes - 2) % 14) 0) }
-    ∷ []
+use Rattle.codec.specs.Record.{lengthIn, kindIn, runsIn, headTrials}
 
 -- what they say: the number of runs, or a refusal
 unfoldable pub openOf : List ℕ → Said ℕ

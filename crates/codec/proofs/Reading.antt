@@ -1,30 +1,20 @@
 -- A record that is read, case by case: what reading says where its head, the room or the column is refused, and where it is not. Assumes nothing.
 use Prim.Native.Nat.{ℕ, _+_, _*_, _≤_, _<_}
 use mathlib.Core.Path.{_≡_, sym, _∙_}
-use mathlib.Core.Bool.{false, not, _||_}
-use mathlib.Core.List.{List, [], _∷_}
+use mathlib.Core.Bool.{false, _||_}
+use mathlib.Core.List.{List}
 use native.Mathlib.Omega.{arith}
 use borrow.Author.Tests.{lt-ltb, le-ltb}
 use lib.Dec.{ltb}
 use Rattle.ranges.proofs.Bools.{or-true}
-use Rattle.keys.specs.Widths.{half64}
-use Rattle.meaning.specs.declared.Refusal.the-variants.{Ends, Reach, Room}
-use Rattle.meaning.specs.Refusals.{Said, Gives, Number, fine, Trial, tried}
-use Rattle.meaning.specs.Column.{endsOk, reachOk}
+use Rattle.meaning.specs.Refusals.{Said, Gives, Number, fine, tried}
 use Rattle.meaning.specs.Calls.{checkOf}
 use Rattle.meaning.proofs.Judging.{columnFirst, clear-tried, refused-before, refused-first, passed, sound-first}
-use Rattle.codec.specs.Record.{lengthIn, runsIn, columnTo, columnIn, Found, readOf}
-use Rattle.codec.proofs.Opening.{headTrials, openOf, Opens, opens}
+use Rattle.codec.specs.Record.{lengthIn, runsIn, columnTo, columnIn, headTrials, restTrials, Found, readOf}
+use Rattle.codec.proofs.Opening.{openOf, Opens, opens}
 use Rattle.codec.proofs.Columns.{shape-fine}
 
--- the tests after the head
-abbrev pub restTrials : List ℕ → ℕ → ℕ → ℕ → List Trial
-restTrials bytes starts ends steps =
-    record { why = Room; holds = ltb starts (runsIn bytes) || ltb ends (runsIn bytes) || ltb steps (runsIn bytes) }
-    ∷ record { why = Ends; holds = not (endsOk (columnIn bytes .ends)) }
-    ∷ record { why = Reach; holds = not (reachOk half64 (columnIn bytes)) }
-    ∷ []
-
+-- what an accepted reading says
 abbrev pub found : List ℕ → Said Found
 found bytes = Gives (record { count = runsIn bytes; used = 4 + lengthIn bytes })
 

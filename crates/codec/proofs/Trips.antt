@@ -22,11 +22,11 @@ use Rattle.meaning.proofs.Parts.{joined-length, joined-from, each-is}
 use Rattle.meaning.proofs.Runs.{before-zero, before-suc}
 use Rattle.meaning.proofs.Soundness.{Sound, sound-parts}
 use Rattle.codec.specs.Bytes.{leVal, leBytes, ofSigned, decode, encode, bytesAt}
-use Rattle.codec.specs.Record.{runBytes, runOut, recordOf, writeOf, lengthIn, kindIn, runsIn, startIn, stepIn, countIn, totalIn, columnTo, columnIn, readTrials, Found, readOf}
+use Rattle.codec.specs.Record.{runBytes, runOut, recordOf, writeOf, lengthIn, kindIn, runsIn, startIn, stepIn, countIn, totalIn, columnTo, columnIn, headTrials, restTrials, readTrials, Found, readOf}
 use Rattle.codec.proofs.Bytes.{Bytes, leBytes-length, leVal-leBytes, decode-encode, part-more, number-back, signed-back}
-use Rattle.codec.proofs.Opening.{headTrials, openOf, opened, Opens, clear-opens}
+use Rattle.codec.proofs.Opening.{openOf, opened, Opens, clear-opens}
 use Rattle.codec.proofs.Columns.{runs-are, shape-fine, start-is, step-is, count-is}
-use Rattle.codec.proofs.Reading.{restTrials, found, column-fine}
+use Rattle.codec.proofs.Reading.{found, column-fine}
 use Rattle.codec.proofs.Writing.{run-length, record-length, write-fine}
 
 -- three parts, one after the other: what stands at the place of each

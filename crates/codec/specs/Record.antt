@@ -67,18 +67,26 @@ columnTo bytes n = lent (each (startIn bytes) n) (each (λ r. totalIn bytes (suc
 abbrev pub columnIn : List ℕ → Column
 columnIn bytes = columnTo bytes (runsIn bytes)
 
--- "A record is tried: 4 bytes there (11), length range (13), bytes there (11), kind (12), multiple (13), room (10), then 2 and 3", into arrays of these lengths
-abbrev pub readTrials : List ℕ → ℕ → ℕ → ℕ → List Trial
-readTrials bytes starts ends steps =
+-- "A record is tried: 4 bytes there (11), length range (13), bytes there (11), kind (12), multiple (13)",
+abbrev pub headTrials : List ℕ → List Trial
+headTrials bytes =
     record { why = Cut; holds = ltb (length bytes) 4 }
     ∷ record { why = Size; holds = ltb (lengthIn bytes) 2 || ltb 57346 (lengthIn bytes) }
     ∷ record { why = Cut; holds = ltb (length bytes) (4 + lengthIn bytes) }
     ∷ record { why = Kind; holds = not (eqb (kindIn bytes) 1) }
     ∷ record { why = Size; holds = not (eqb ((lengthIn bytes - 2) % 14) 0) }
-    ∷ record { why = Room; holds = ltb starts (runsIn bytes) || ltb ends (runsIn bytes) || ltb steps (runsIn bytes) }
+    ∷ []
+
+-- "room (10), then 2 and 3", with arrays of these lengths
+abbrev pub restTrials : List ℕ → ℕ → ℕ → ℕ → List Trial
+restTrials bytes starts ends steps =
+    record { why = Room; holds = ltb starts (runsIn bytes) || ltb ends (runsIn bytes) || ltb steps (runsIn bytes) }
     ∷ record { why = Ends; holds = not (endsOk (columnIn bytes .ends)) }
     ∷ record { why = Reach; holds = not (reachOk half64 (columnIn bytes)) }
     ∷ []
+
+abbrev pub readTrials : List ℕ → ℕ → ℕ → ℕ → List Trial
+readTrials bytes starts ends steps = headTrials bytes ++ restTrials bytes starts ends steps
 
 -- "Reading answers the run count and the bytes used"
 pub record Found : Type 0 where
