@@ -46,7 +46,7 @@ leVal-step s j d h = rw (drop-cons s j 0 h)
 pub leBytes-length : (k x : ℕ) → length (leBytes k x) ≡ k
 unfolding leBytes
 leBytes-length zero x = refl
-leBytes-length (suc k) x = ap suc (leBytes-length k (x / 256))
+leBytes-length (suc k) x = ap suc (leBytes-length k _)
 
 pub leVal-leBytes : (k x : ℕ) → x < 256 ^ k → leVal (leBytes k x) ≡ x
 unfolding leVal leBytes

@@ -3,6 +3,7 @@ use Prim.Native.Nat.{ℕ, zero, suc, _+_, _-_, _≤_, _<_}
 use mathlib.Core.Path.{_≡_, refl, sym, ap, _∙_}
 use mathlib.Core.Bool.{Bool, true, false, _&&_}
 use mathlib.Core.List.{List}
+use mathlib.Core.Logic.{_↔_}
 use native.Mathlib.Omega.{arith}
 use native.Mathlib.Numerals.{add-one}
 use borrow.Author.Count.{below-more}
@@ -10,7 +11,7 @@ use borrow.Author.Tests.{eq-eqb, le-leb}
 use lib.ListN.{length}
 use lib.IntN.{ℤ, pos}
 use Rattle.ranges.specs.Ranges.{allFor, allIn}
-use Rattle.ranges.proofs.Spans.{all-in, not-all-in, all-next}
+use Rattle.ranges.proofs.Spans.{all-in, in-all, not-all-in, all-next}
 use Rattle.keys.specs.Widths.{fitsIn, half64}
 use Rattle.meaning.specs.Refusals.{Gives, Number, fine}
 use Rattle.meaning.specs.Column.{Column, startOf, endOf, stepOf, endBefore, runs, offset, shapeOk, endOk, endsOk, runOk, reachOk}
@@ -18,7 +19,7 @@ use Rattle.meaning.specs.Calls.{checkOf}
 use Rattle.meaning.proofs.Parts.{each-length, each-at}
 use Rattle.meaning.proofs.Calls.{check-ends, check-reach, check-all}
 use Rattle.meaning.proofs.Soundness.{run-told}
-use Rattle.meaning.proofs.Runs.{before-zero, before-suc, end-low, end-far, end-good}
+use Rattle.meaning.proofs.Runs.{before-zero, before-suc, end-rises, end-most, end-low, end-far, end-good}
 use Rattle.codec.specs.Record.{startIn, stepIn, countIn, totalIn, columnTo}
 
 -- ---- totals
@@ -65,6 +66,25 @@ module _ (bytes : List ℕ) (n : ℕ) where
   pub count-is : (r : ℕ) → r < n → endOf col r - endBefore (col .ends) r ≡ countIn bytes r
   unfolding totalIn
   count-is r l = rw (end-is r l, before-is r (omega arith)) (omega arith)
+
+  -- 2 and 3 in terms of the bytes. "a run length of 0 is 2", and so is a total over 4,294,967,295;
+  pub ends-exactly : (endsOk (col .ends) ≡ true) ↔ ((r : ℕ) → r < n → (0 < countIn bytes r) × (totalIn bytes (r + 1) ≤ 4294967295))
+  unfolding endsOk
+  ends-exactly = (
+    λ h r l. let good = in-all (endOk (col .ends)) 0 (runs col) h r (omega arith) (rw runs-are l) in
+        (omega (arith, end-rises (col .ends) r good, count-is r l), omega (arith, end-most (col .ends) r good, end-is r l, ap (totalIn bytes) (add-one r))),
+    λ f. all-in (endOk (col .ends)) 0 (runs col) (λ r u m.
+        let l : r < n = rw runs-are at m in
+        end-good (col .ends) r (endBefore (col .ends) r) refl (omega (arith, count-is r l, f r l .0)) (omega (arith, end-is r l, ap (totalIn bytes) (add-one r), f r l .1))),
+  )
+
+  -- a run whose last element is no i64 is 3
+  pub reach-exactly : (reachOk half64 col ≡ true) ↔ ((r : ℕ) → r < n → fitsIn half64 (offset (startIn bytes r) (stepIn bytes r) (countIn bytes r - 1)) ≡ true)
+  unfolding reachOk runOk
+  reach-exactly = (
+    λ h r l. rw (start-is r l, step-is r l, count-is r l) at (in-all (runOk half64 col) 0 (runs col) h r (omega arith) (rw runs-are l)),
+    λ f. all-in (runOk half64 col) 0 (runs col) (λ r u m. let l : r < n = rw runs-are at m in rw (start-is r l, step-is r l, count-is r l) (f r l)),
+  )
 
   -- an end that is wrong
   wrong-end : n ≤ 4096 → (k : ℕ) → k < n → endOk (col .ends) k ≡ false → Number 2 ≡ checkOf col

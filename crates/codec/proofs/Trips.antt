@@ -58,7 +58,7 @@ module _ (start step : ℤ) (count : ℕ) (t : List ℕ) where
 
 -- ---- reading what was written
 
-same-column : (x y : Column) → x .starts ≡ y .starts → x .ends ≡ y .ends → x .steps ≡ y .steps → x ≡ y
+pub same-column : (x y : Column) → x .starts ≡ y .starts → x .ends ≡ y .ends → x .steps ≡ y .steps → x ≡ y
 same-column x y p q r = λ i. record { starts = p i; ends = q i; steps = r i }
 
 -- a column whose starts are i64s and whose steps are i16s
