@@ -1,5 +1,7 @@
-// Document 01's stored example, written and read back; records that are cut, damaged or have no room; columns that are not written;
-// the empty record and the largest.
+// Document 01's stored example, written, read and written back; records that are cut or damaged or find no room; columns that are
+// not written; the empty record and the largest. What is read stands in arrays whose places hold 7 before, what is written in bytes
+// that are EE before, and all of each is shown.
+ghost use Prim.Native.Nat.{_≤_};
 use libc::STDOUT_FILENO;
 use record::ReadRecord;
 use record::Written;
@@ -50,21 +52,25 @@ fn place(start: i64, end: u64, step: i16) {
     text(b")");
 }
 
-// A record read into arrays of so many places, of the two that there are; each place holds 7 before.
-fn reading(bytes: &[u8], a: usize, b: usize, c: usize) {
-    let mut starts = [7i64; 2];
-    let mut ends = [7u64; 2];
-    let mut steps = [7i16; 2];
-    if a <= 2 {
-        if b <= 2 {
-            if c <= 2 {
-                found(read(bytes, &mut starts[..a], &mut ends[..b], &mut steps[..c]));
-            }
-        }
-    }
+// A record read into arrays of so many places, of the three that there are.
+fn reading(bytes: &[u8], a: usize, b: usize, c: usize)
+    requires { ⌜ (a ≤ 3) × (b ≤ 3) × (c ≤ 3) ⌝ }
+{
+    let mut starts = [7i64; 3];
+    let mut ends = [7u64; 3];
+    let mut steps = [7i16; 3];
+    found(read(bytes, &mut starts[..a], &mut ends[..b], &mut steps[..c]));
     place(starts[0], ends[0], steps[0]);
     place(starts[1], ends[1], steps[1]);
+    place(starts[2], ends[2], steps[2]);
     text(b"\n");
+}
+
+// A record with room for it.
+fn case(name: &[u8], bytes: &[u8]) {
+    text(name);
+    text(b": ");
+    reading(bytes, 3, 3, 3);
 }
 
 // A record cut after each of its bytes.
@@ -74,16 +80,109 @@ fn cuts(bytes: &[u8]) {
         text(b"cut after ");
         unsigned(k as u64);
         text(b": ");
-        reading(&bytes[..k], 2, 2, 2);
+        reading(&bytes[..k], 3, 3, 3);
         k += 1;
     }
 }
 
-// A column written, and all that the output holds then.
 fn writing(starts: &[i64], ends: &[u64], steps: &[i16], out: &mut [u8]) {
     wrote(write(starts, ends, steps, out));
     hex(out);
     text(b"\n");
+}
+
+// A record of two runs, read and written back.
+fn back(bytes: &[u8]) {
+    let mut starts = [7i64; 2];
+    let mut ends = [7u64; 2];
+    let mut steps = [7i16; 2];
+    found(read(bytes, &mut starts, &mut ends, &mut steps));
+    text(b", back: ");
+    writing(&starts, &ends, &steps, &mut [238u8; 36]);
+}
+
+fn written() {
+    text(b"one run (10,-5,2): ");
+    writing(&[10], &[2], &[-5], &mut [238u8; 24]);
+    writing(&[10], &[2], &[-5], &mut [238u8; 20]);
+    writing(&[10], &[2], &[-5], &mut [238u8; 19]);
+    text(b"no runs: ");
+    writing(&[], &[], &[], &mut [238u8; 8]);
+}
+
+fn not_written() {
+    text(b"lengths differ: ");
+    writing(&[1, 2], &[1], &[0], &mut [238u8; 4]);
+    text(b"an end of 0: ");
+    writing(&[1], &[0], &[0], &mut [238u8; 4]);
+    text(b"out of reach: ");
+    writing(&[9223372036854775807], &[2], &[1], &mut [238u8; 4]);
+    text(b"4097 runs, each of which ends at 1: ");
+    writing(&[0i64; 4097], &[1u64; 4097], &[0i16; 4097], &mut [238u8; 4]);
+}
+
+// The record of one run (10,-5,2): with room for it, with too little, and cut.
+fn one_run(bytes: &[u8]) {
+    reading(bytes, 3, 3, 3);
+    reading(bytes, 1, 1, 1);
+    reading(bytes, 0, 3, 3);
+    reading(bytes, 3, 0, 3);
+    reading(bytes, 3, 3, 0);
+    cuts(bytes);
+}
+
+// The record of column D, into arrays that differ in length, and back; bytes follow it.
+fn two_runs(bytes: &[u8]) {
+    reading(bytes, 2, 3, 2);
+    reading(bytes, 3, 2, 3);
+    reading(bytes, 1, 2, 3);
+    back(bytes);
+}
+
+// 13, 11 and 12, and which of them comes first.
+fn heads() {
+    case(b"length 1", b"\x01\0\0\0\x01\0\0");
+    case(b"length 2, bytes after it", b"\x02\0\0\0\x01\0\x09");
+    case(b"length 3", b"\x03\0\0\0\x01\0\0");
+    case(b"length 3, kind 2", b"\x03\0\0\0\x02\0\0");
+    case(b"length 57346, cut", b"\x02\xE0\0\0\x01\0\0");
+    case(b"length 57347, cut", b"\x03\xE0\0\0\x01\0\0");
+    case(b"length 16777218, cut", b"\x02\0\0\x01\x01\0\0");
+    case(
+        b"kind 2",
+        b"\x10\0\0\0\x02\0\x0A\0\0\0\0\0\0\0\xFB\xFF\x02\0\0\0",
+    );
+    case(
+        b"kind 257",
+        b"\x10\0\0\0\x01\x01\x0A\0\0\0\0\0\0\0\xFB\xFF\x02\0\0\0",
+    );
+}
+
+// 2 and 3, after 10.
+fn runs() {
+    case(
+        b"run length 0",
+        b"\x10\0\0\0\x01\0\x0A\0\0\0\0\0\0\0\xFB\xFF\0\0\0\0",
+    );
+    text(b"run length 0, no room: ");
+    reading(
+        b"\x10\0\0\0\x01\0\x0A\0\0\0\0\0\0\0\xFB\xFF\0\0\0\0",
+        3,
+        3,
+        0,
+    );
+    case(
+        b"run lengths 4294967295 and 1",
+        b"\x1E\0\0\0\x01\0\0\0\0\0\0\0\0\0\0\0\xFF\xFF\xFF\xFF\0\0\0\0\0\0\0\x80\xFF\xFF\x01\0\0\0",
+    );
+    case(
+        b"out of reach, then run length 0",
+        b"\x1E\0\0\0\x01\0\0\0\0\0\0\0\0\x80\xFF\xFF\x02\0\0\0\0\0\0\0\0\0\0\0\0\0\0\0\0\0",
+    );
+    case(
+        b"out of reach",
+        b"\x1E\0\0\0\x01\0\0\0\0\0\0\0\0\x80\xFF\xFF\x02\0\0\0\0\0\0\0\0\0\0\0\0\0\x01\0\0\0",
+    );
 }
 
 // 1, 2, 3 and so on.
@@ -97,7 +196,7 @@ fn counted() -> [u64; 4096] {
     ends
 }
 
-// 4,096 runs, written, read back and written again.
+// 4,096 runs, written, read and written back.
 fn largest() {
     let mut starts = [-9223372036854775808i64; 4096];
     let mut ends = counted();
@@ -120,242 +219,17 @@ fn largest() {
     }
 }
 
-// A record whose first run is cut off, or that has none.
-fn headed(length: u8, over: u8, kind: u8) {
-    let head = [length, over, 0, 0, kind, 0, 0];
-    reading(&head, 2, 2, 2);
-}
-
-// A record of one run (10,-5,count) of some kind.
-fn kinded(kind: u8, high: u8, count: u8) {
-    let one = [
-        16,
-        0,
-        0,
-        0,
-        kind,
-        high,
-        10,
-        0,
-        0,
-        0,
-        0,
-        0,
-        0,
-        0,
-        251,
-        255,
-        count,
-        0,
-        0,
-        0,
-    ];
-    reading(&one, 2, 2, 2);
-}
-
-fn lengths() {
-    text(b"length 1: ");
-    headed(1, 0, 1);
-    text(b"length 3: ");
-    headed(3, 0, 1);
-    text(b"length 57346: ");
-    headed(2, 224, 1);
-    text(b"length 57347: ");
-    headed(3, 224, 1);
-}
-
-fn kinds() {
-    text(b"kind 2: ");
-    kinded(2, 0, 2);
-    text(b"kind 257: ");
-    kinded(1, 1, 2);
-    text(b"run length 0: ");
-    kinded(1, 0, 0);
-}
-
-fn totals() {
-    text(b"run lengths 4294967295 and 1: ");
-    let two = [
-        30,
-        0,
-        0,
-        0,
-        1,
-        0,
-        0,
-        0,
-        0,
-        0,
-        0,
-        0,
-        0,
-        0,
-        0,
-        0,
-        255,
-        255,
-        255,
-        255,
-        0,
-        0,
-        0,
-        0,
-        0,
-        0,
-        0,
-        128,
-        255,
-        255,
-        1,
-        0,
-        0,
-        0,
-    ];
-    reading(&two, 2, 2, 2);
-}
-
-// The least i64 with a step of -1, in two runs of 2 and of some length.
-fn reached(count: u8) {
-    let two = [
-        30,
-        0,
-        0,
-        0,
-        1,
-        0,
-        0,
-        0,
-        0,
-        0,
-        0,
-        0,
-        0,
-        128,
-        255,
-        255,
-        2,
-        0,
-        0,
-        0,
-        0,
-        0,
-        0,
-        0,
-        0,
-        0,
-        0,
-        0,
-        0,
-        0,
-        count,
-        0,
-        0,
-        0,
-    ];
-    reading(&two, 2, 2, 2);
-}
-
-fn reaches() {
-    text(b"out of reach, then run length 0: ");
-    reached(0);
-    text(b"out of reach: ");
-    reached(1);
-}
-
-// One run (10,-5,2). Each byte is EE before.
-fn written() {
-    text(b"one run (10,-5,2): ");
-    writing(&[10], &[2], &[-5], &mut [238u8; 24]);
-    writing(&[10], &[2], &[-5], &mut [238u8; 20]);
-    writing(&[10], &[2], &[-5], &mut [238u8; 19]);
-}
-
-fn not_written() {
-    text(b"no runs: ");
-    writing(&[], &[], &[], &mut [238u8; 8]);
-    text(b"lengths differ: ");
-    writing(&[1, 2], &[1], &[0], &mut [238u8; 4]);
-    text(b"an end of 0: ");
-    writing(&[1], &[0], &[0], &mut [238u8; 4]);
-    text(b"out of reach: ");
-    writing(&[9223372036854775807], &[2], &[1], &mut [238u8; 4]);
-}
-
-// The record of one run (10,-5,2), with room for it and with too little, and cut.
-fn stored(one: &[u8]) {
-    text(b"read:\n");
-    reading(one, 2, 2, 2);
-    reading(one, 1, 1, 1);
-    reading(one, 0, 2, 2);
-    reading(one, 2, 0, 2);
-    reading(one, 2, 2, 0);
-    cuts(one);
-}
-
 fn main() {
     written();
     not_written();
-    stored(
-        &[
-            16,
-            0,
-            0,
-            0,
-            1,
-            0,
-            10,
-            0,
-            0,
-            0,
-            0,
-            0,
-            0,
-            0,
-            251,
-            255,
-            2,
-            0,
-            0,
-            0,
-        ],
+    text(b"one run:\n");
+    one_run(b"\x10\0\0\0\x01\0\x0A\0\0\0\0\0\0\0\xFB\xFF\x02\0\0\0");
+    text(b"two runs:\n");
+    two_runs(
+        b"\x1E\0\0\0\x01\0\x0A\0\0\0\0\0\0\0\xFB\xFF\x02\0\0\0\x06\0\0\0\0\0\0\0\x01\0\x03\0\0\0\x09\x09",
     );
-    text(b"with bytes after it: ");
-    reading(
-        &[
-            16,
-            0,
-            0,
-            0,
-            1,
-            0,
-            10,
-            0,
-            0,
-            0,
-            0,
-            0,
-            0,
-            0,
-            251,
-            255,
-            2,
-            0,
-            0,
-            0,
-            9,
-            9,
-            9,
-        ],
-        2,
-        1,
-        2,
-    );
-    text(b"no runs: ");
-    reading(&[2, 0, 0, 0, 1, 0, 9], 0, 0, 0);
-    lengths();
-    kinds();
-    totals();
-    reaches();
+    heads();
+    runs();
     text(b"4096 runs: ");
     largest();
 }

@@ -53,6 +53,18 @@ array-copy-out-place-4 c = search needs
 place-requires-2 : tie.Need-place-requires-2
 place-requires-2 c κs = search needs
 
+array-copy-out-place-5 : tie.Need-array-copy-out-place-5
+array-copy-out-place-5 c = search needs
+
+array-read-place-3 : tie.Need-array-read-place-3
+array-read-place-3 c = search needs
+
+array-copy-out-place-6 : tie.Need-array-copy-out-place-6
+array-copy-out-place-6 c = search needs
+
+place-requires-3 : tie.Need-place-requires-3
+place-requires-3 c κs = search needs
+
 slice-aggregate-text : tie.Need-slice-aggregate-text
 slice-aggregate-text c = search needs
 
@@ -82,6 +94,10 @@ reading-spec =
     array-read-place-2
     array-copy-out-place-4
     place-requires-2
+    array-copy-out-place-5
+    array-read-place-3
+    array-copy-out-place-6
+    place-requires-3
     slice-aggregate-text
     text-requires
     returns)
