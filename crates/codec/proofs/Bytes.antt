@@ -4,8 +4,7 @@ use mathlib.Core.Path.{_≡_, refl, sym, ap, _∙_}
 use mathlib.Core.Bool.{Bool, true, false, cond}
 use mathlib.Core.List.{List, [], _∷_, _++_}
 use native.Mathlib.Omega.{arith}
-use native.Mathlib.Nat.{pow-suc, le-refl}
-use native.Mathlib.Decide.{le-ind}
+use native.Mathlib.Nat.{pow-suc, pow-le-pow-right}
 use borrow.Author.Tests.{lt-ltb, le-ltb, ltb-true, ltb-false}
 use lib.Dec.{ltb}
 use lib.ListN.{length, take, drop, getD, length-drop, length-take, List·getD-eq-default}
@@ -21,16 +20,12 @@ Bytes bs = (i : ℕ) → getD bs i 0 < 256
 
 -- ---- the bytes of a number
 
-pow-above : (k : ℕ) → 0 < 256 ^ k
-pow-above zero = omega arith
-pow-above (suc k) = rw (pow-suc 256 k) (omega (arith, pow-above k))
-
 pub pow-up : (j k : ℕ) → j ≤ k → 256 ^ j ≤ 256 ^ k
-pow-up j k h = le-ind (λ m. 256 ^ j ≤ 256 ^ m) (le-refl _) (λ m _ r. rw (pow-suc 256 m) (omega arith)) k h
+pow-up j k h = pow-le-pow-right {n = 256} (omega arith) h
 
 pub leVal-lt : (bs : List ℕ) (k : ℕ) → length bs ≤ k → Bytes bs → leVal bs < 256 ^ k
 unfolding leVal
-leVal-lt [] k l h = pow-above k
+leVal-lt [] k l h = pow-up 0 k (omega arith)
 leVal-lt (b ∷ bs) zero l h = omega arith
 leVal-lt (b ∷ bs) (suc k) l h = rw (pow-suc 256 k) (omega (arith, leVal-lt bs k (omega arith) (λ i. h (suc i)), h 0))
 
