@@ -4,7 +4,7 @@ is compared with what it should be, and a difference fails."""
 import pathlib
 import sys
 
-from model import C, D, Column, Refused, Scan, diff_step, listing
+from model import C, D, Column, Refused, Scan, diff_step, listing, read
 
 ROOT = pathlib.Path(__file__).resolve().parent.parent
 
@@ -183,7 +183,80 @@ def listed():
     return '\n'.join(out) + '\n'
 
 
-PROGRAMS = {'run_only': run_only, 'scanned': scanned, 'lending': lending, 'listed': listed}
+def stored():
+    out = []
+    big, least = 2**63 - 1, -2**63
+
+    def record(size, kind, *rs):
+        body = b''.join(s.to_bytes(8, 'little', signed=True) + d.to_bytes(2, 'little', signed=True) + n.to_bytes(4, 'little') for s, d, n in rs)
+        return size.to_bytes(4, 'little') + kind.to_bytes(2, 'little') + body
+
+    def answered(data, arrays, rooms):
+        """What reading answers; what it writes is written to the arrays."""
+        column, used = read(data, rooms)
+        for array, new in zip(arrays, (column.starts, column.ends, column.steps)):
+            array[:len(new)] = new
+        return f'{len(column.ends)} runs, {used} bytes used'
+
+    def held(starts, ends, steps):
+        return ''.join(f' ({s},{e},{d})' for s, e, d in zip(starts, ends, steps))
+
+    def reading(name, data, *rooms):
+        arrays = [[7] * 3, [7] * 3, [7] * 3]
+        out.append(name + said(lambda: answered(data, arrays, rooms or (3, 3, 3))) + held(*arrays))
+
+    def writing(name, column, room):
+        array = bytearray([0xEE] * room)
+
+        def write():
+            data = column.write(room)
+            array[:len(data)] = data
+            return f'{len(data)} bytes'
+        out.append(name + said(write) + ''.join(f' {b:02x}' for b in array))
+
+    for name, column, room in (
+            ('one run (10,-5,2)', Column([10], [2], [-5]), 24), ('', Column([10], [2], [-5]), 20), ('', Column([10], [2], [-5]), 19),
+            ('no runs', Column([], [], []), 8), ('lengths differ', Column([1, 2], [1], [0]), 4), ('an end of 0', Column([1], [0], [0]), 4),
+            ('out of reach', Column([big], [2], [1]), 4), ('4097 runs, each of which ends at 1', Column([0] * 4097, [1] * 4097, [0] * 4097), 4)):
+        writing(name + ': ' if name else '', column, room)
+
+    # document 01's own bytes
+    one = bytes.fromhex('10 00 00 00 01 00 0A 00 00 00 00 00 00 00 FB FF 02 00 00 00')
+    out.append('one run:')
+    for rooms in ((3, 3, 3), (1, 1, 1), (0, 3, 3), (3, 0, 3), (3, 3, 0)):
+        reading('', one, *rooms)
+    for k in range(len(one)):
+        reading(f'cut after {k}: ', one[:k])
+
+    out.append('two runs:')
+    two = record(30, 1, (10, -5, 2), (6, 1, 3)) + bytes([9, 9])
+    for rooms in ((2, 3, 2), (3, 2, 3), (1, 2, 3)):
+        reading('', two, *rooms)
+    arrays = [[7] * 2, [7] * 2, [7] * 2]
+    writing(answered(two, arrays, (2, 2, 2)) + ', back: ', Column(*arrays), 36)
+
+    for name, size, kind, last in (
+            ('length 1', 1, 1, 0), ('length 2, bytes after it', 2, 1, 9), ('length 3', 3, 1, 0), ('length 3, kind 2', 3, 2, 0),
+            ('length 57346, cut', 57346, 1, 0), ('length 57347, cut', 57347, 1, 0), ('length 16777218, cut', 16777218, 1, 0)):
+        reading(f'{name}: ', record(size, kind) + bytes([last]))
+    reading('kind 2: ', record(16, 2, (10, -5, 2)))
+    reading('kind 257: ', record(16, 257, (10, -5, 2)))
+    reading('run length 0: ', record(16, 1, (10, -5, 0)))
+    reading('run length 0, no room: ', record(16, 1, (10, -5, 0)), 3, 3, 0)
+    reading('run lengths 4294967295 and 1: ', record(30, 1, (0, 0, 4294967295), (least, -1, 1)))
+    reading('out of reach, then run length 0: ', record(30, 1, (least, -1, 2), (0, 0, 0)))
+    reading('out of reach: ', record(30, 1, (least, -1, 2), (0, 0, 1)))
+
+    data = Column([least] * 4096, list(range(1, 4097)), [-32768] * 4096).write(57350)
+    arrays = [[0] * 4096, [0] * 4096, [0] * 4096]
+    out.append(f'4096 runs: {len(data)} bytes')
+    out.append(answered(data, arrays, (4096, 4096, 4096)) + held(*(a[-1:] for a in arrays)))
+    again = Column(*arrays).write(57350)
+    out.append(f'{len(again)} bytes, ' + ('the same' if again == data else 'others'))
+    return '\n'.join(out) + '\n'
+
+
+PROGRAMS = {'run_only': run_only, 'scanned': scanned, 'lending': lending, 'listed': listed, 'stored': stored}
 
 
 def main():

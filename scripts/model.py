@@ -2,7 +2,7 @@
 expected.py beside it writes their stored output with it, and the gate compares."""
 
 I64 = range(-2**63, 2**63)
-SHAPE, ENDS, REACH, INDEX, WINDOW, SCAN, ORDER, BOUNDS, INPUT, ROOM = range(1, 11)
+SHAPE, ENDS, REACH, INDEX, WINDOW, SCAN, ORDER, BOUNDS, INPUT, ROOM, CUT, KIND, SIZE = range(1, 14)
 
 
 class Refused(Exception):
@@ -73,6 +73,34 @@ class Column:
                 return False
             i = stop
         return True
+
+    def write(self, room):
+        """The record's bytes, or 1, 2, 3, 10."""
+        self.check()
+        lengths = [e - b for b, e in zip([0] + list(self.ends), self.ends)]
+        body = (1).to_bytes(2, 'little') + b''.join(
+            s.to_bytes(8, 'little', signed=True) + d.to_bytes(2, 'little', signed=True) + n.to_bytes(4, 'little')
+            for s, d, n in zip(self.starts, self.steps, lengths))
+        record = len(body).to_bytes(4, 'little') + body
+        refuse_if(len(record) > room, ROOM)
+        return record
+
+
+def read(data, rooms):
+    """The column in a record and the bytes used; tried in document 01's order."""
+    refuse_if(len(data) < 4, CUT)
+    size = int.from_bytes(data[:4], 'little')
+    refuse_if(not 2 <= size <= 57346, SIZE)
+    refuse_if(len(data) < 4 + size, CUT)
+    refuse_if(int.from_bytes(data[4:6], 'little') != 1, KIND)
+    refuse_if((size - 2) % 14 != 0, SIZE)
+    count = (size - 2) // 14
+    refuse_if(any(room < count for room in rooms), ROOM)
+    parts = [data[6 + 14 * r:20 + 14 * r] for r in range(count)]
+    column = runs(*((int.from_bytes(p[:8], 'little', signed=True), int.from_bytes(p[8:10], 'little', signed=True), int.from_bytes(p[10:], 'little'))
+                    for p in parts))
+    column.check()
+    return column, 4 + size
 
 
 def runs(*rs):

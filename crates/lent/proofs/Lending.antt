@@ -17,7 +17,8 @@ use Rattle.meaning.specs.declared.Answer.{Answer}
 use Rattle.meaning.specs.declared.Answer.the-variants.{Value, None, Refused}
 use Rattle.loftsplice.specs.Scan.{saysAnswer, Outcome, goTo, nextFrom, seekFrom, refuse, nextOf, seekOf, narrowOf, resetOf}
 use Rattle.theorems.specs.Exact.{accepted}
-use Rattle.theorems.proofs.Unique.{one-result, answer-apart}
+use Rattle.meaning.proofs.Unique.{one-result}
+use Rattle.theorems.proofs.Unique.{answer-apart}
 use Rattle.theorems.proofs.ScanCalls.{next-keeps, seek-keeps, narrow-keeps, reset-keeps}
 use Rattle.lent.specs.Lending.{Call, Next, Seek, Narrow, Reset, byValue, Handed, Lent, Run}
 

@@ -9,6 +9,7 @@ use lib.Dec.{ltb, eqb}
 use lib.ListN.{take}
 use Rattle.ranges.specs.Ranges.{every}
 use Rattle.ranges.proofs.Bools.{either, and-left, and-false, and-true, and-swap, not-yes, not-not, In, every-at, at-every}
+use Rattle.ranges.proofs.Reading.{reading, same-test}
 use Rattle.meaning.specs.Sequence.{Sequence, Source, rises}
 use Rattle.loftsplice.specs.declared.scan.Scan.{Scan}
 use Rattle.bounds.specs.declared.Bound.{Bound}
@@ -25,7 +26,6 @@ use Rattle.theorems.specs.Exact.{accepted, soundSource, allReadable}
 use Rattle.theorems.specs.Demand3.{answersOf, answers, allLower, allUpper}
 use Rattle.theorems.specs.Runs.{risingWindow, acceptable}
 use Rattle.theorems.specs.Audit.{constant}
-use Rattle.theorems.proofs.Reading.{reading, same-test}
 use Rattle.theorems.proofs.FilterCalls.{call-accepts, call-does, call-keeps}
 use Rattle.theorems.proofs.Moves.{Restricted, fresh-restricted, restricted-bad, move-restricted}
 

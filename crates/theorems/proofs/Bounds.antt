@@ -8,11 +8,11 @@ use lib.Signed.{ltZ}
 use Rattle.ranges.specs.Ranges.{every, someOf}
 use Rattle.ranges.proofs.Bools.{either, clash, same, and-left, and-right, and-both, and-false, and-assoc, and-true, or-left, or-right, or-false, not-yes, not-no, In, every-at, at-every, at-some, some-at, fails-at}
 use Rattle.ranges.proofs.Order.{lt-self, lt-same, lt-not, lt-le, le-lt, lt-trans}
+use Rattle.ranges.proofs.Reading.{reading, both-on}
 use Rattle.bounds.specs.declared.Bound.{Bound}
 use Rattle.bounds.specs.declared.Limit.the-variants.{To}
 use Rattle.bounds.specs.Bounds.{isExclusive, less, greater, lesser, fold, folded, greatest, least, meetsLower, meetsUpper, within, listed, above}
 use Rattle.theorems.specs.Demand3.{equal, bothWays, tied}
-use Rattle.theorems.proofs.Reading.{reading, both-on}
 
 -- ---- one bound
 

@@ -7,13 +7,13 @@ use lib.Dec.{ltb, leb, eqb}
 use Rattle.keys.specs.Widths.{half64}
 use Rattle.ranges.specs.Ranges.{someOf}
 use Rattle.ranges.proofs.Bools.{not-not}
+use Rattle.ranges.proofs.Reading.{reading}
 use Rattle.meaning.specs.declared.Refusal.{Refusal}
 use Rattle.meaning.specs.declared.Refusal.the-variants.{Index}
 use Rattle.meaning.specs.Refusals.{fine, Said, Gives, Number, also, judged}
 use Rattle.meaning.specs.Column.{Column, shapeOk, endsOk, reachOk, sound, sizeOf, sourceOf}
 use Rattle.meaning.specs.Calls.{onColumn, checkOf, lenOf, isEmptyOf, placeOf, getOf}
 use Rattle.theorems.specs.Exact.{earlier, accepted, soundSource}
-use Rattle.theorems.proofs.Reading.{reading}
 use Rattle.theorems.proofs.Exactly.{plainly, exact, accepted-exactly, OfSource, source-tests}
 
 module _ (c : Column) where

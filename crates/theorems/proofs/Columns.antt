@@ -15,6 +15,7 @@ use lib.Signed.{mag, ltZ}
 use Rattle.ranges.specs.Ranges.{every}
 use Rattle.ranges.proofs.Bools.{and-left, and-right, and-false}
 use Rattle.ranges.proofs.Spans.{in-all, all-in, lt-or-ge}
+use Rattle.ranges.proofs.Reading.{reading}
 use Rattle.keys.specs.Widths.{fitsIn, half64}
 use Rattle.keys.proofs.Widths.{in-mag}
 use Rattle.meaning.specs.Refusals.{Said, fine, Gives, Number, tried}
@@ -26,7 +27,6 @@ use Rattle.loftsplice.specs.Scan.{fresh, put, goTo, nextFrom}
 use Rattle.meaning.proofs.Judging.{passed, sound-first}
 use Rattle.meaning.proofs.Runs.{end-le-before, run-above, run-from, run-there, run-in, run-past}
 use Rattle.meaning.proofs.Soundness.{shape-parts, ends-rise, run-fits}
-use Rattle.theorems.proofs.Reading.{reading}
 
 sound-tests : (c : Column) → (sound c ≡ true) ↔ ((shapeOk c ≡ true) × (endsOk (c .ends) ≡ true) × (reachOk half64 c ≡ true))
 unfolding sound

@@ -19,6 +19,7 @@ use Rattle.ranges.proofs.Bools.{either, and-left, same-after}
 use Rattle.ranges.proofs.Spans.{First, first-known, first-none, lt-or-ge}
 use Rattle.meaning.specs.Refusals.{Said, Gives}
 use Rattle.meaning.specs.Sequence.{Sequence, Source, elementsIn}
+use Rattle.meaning.proofs.Judging.{none-given}
 use Rattle.bounds.specs.declared.Bound.{Bound}
 use Rattle.filter_interval.specs.declared.Filter.{Filter}
 use Rattle.loftsplice.specs.Scan.{fresh}
@@ -27,7 +28,6 @@ use Rattle.loftsplice.specs.Listing.{those}
 use Rattle.theorems.specs.Exact.{accepted}
 use Rattle.theorems.specs.Demand3.{answersOf, answers, moves, allLower, allUpper, meetsAll, tied, answerAt, counts, expectedFrom, expected}
 use Rattle.theorems.specs.Runs.{letThrough, noneStays, isNext, suchElements, listing, walk, kept, only}
-use Rattle.theorems.proofs.Reading.{none-given}
 use Rattle.theorems.proofs.FilterCalls.{call-keeps}
 use Rattle.theorems.proofs.Expected.{is-next, stays-none, nexts-list, walks}
 use Rattle.theorems.proofs.Folded.{by-folded, through, untied}

@@ -12,6 +12,7 @@ use Rattle.ranges.proofs.Bools.{clash}
 use Rattle.ranges.proofs.Spans.{lt-or-ge}
 use Rattle.meaning.specs.Refusals.{Gives}
 use Rattle.meaning.specs.Sequence.{Sequence, Source}
+use Rattle.meaning.proofs.Judging.{none-given}
 use Rattle.loftsplice.specs.declared.scan.State.{State}
 use Rattle.loftsplice.specs.declared.scan.State.the-variants.{Fresh, At, Ended}
 use Rattle.loftsplice.specs.declared.scan.Scan.{Scan}
@@ -22,7 +23,6 @@ use Rattle.bounds.specs.Bounds.{bounds}
 use Rattle.filter_interval.specs.Filter.{Next, Seek, newFilter, fitOf, filterResetOf}
 use Rattle.theorems.specs.Exact.{accepted}
 use Rattle.theorems.specs.Runs.{standsIn, standing}
-use Rattle.theorems.proofs.Reading.{none-given}
 use Rattle.theorems.proofs.ScanCalls.{new-accepts, new-does, next-accepts, next-does, seek-accepts, seek-does, narrow-accepts, narrow-does, reset-accepts, reset-does, current-accepts, current-does, pos-accepts, pos-does}
 use Rattle.theorems.proofs.FilterCalls.{fit-does}
 use Rattle.theorems.proofs.Moves.{reached, to-inside, Landing, seek-lands, Restricted, in-place, below-end, move-restricted}

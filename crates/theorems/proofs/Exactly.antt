@@ -3,20 +3,21 @@ use Prim.Native.Nat.{ℕ}
 use mathlib.Core.Path.{_≡_, refl, sym, ap, _∙_}
 use mathlib.Core.Bool.{Bool, true, false, cond, false≢true}
 use mathlib.Core.List.{List, [], _∷_, map}
-use mathlib.Core.Logic.{_↔_, _⊎_, inl, inr, ⊎-elim, Iff·rfl, Iff·symm, Iff·trans}
+use mathlib.Core.Logic.{_↔_, _⊎_, inl, inr, ⊎-elim, Iff·rfl, Iff·trans}
 use borrow.Author.Tests.{eqb-true, eqb-false, eq-eqb, ne-eqb}
 use lib.Dec.{eqb}
 use Rattle.ranges.specs.Ranges.{someOf}
 use Rattle.ranges.proofs.Bools.{either, clash, In}
+use Rattle.ranges.proofs.Reading.{reading, sure-first}
 use Rattle.meaning.specs.declared.Refusal.{Refusal}
 use Rattle.meaning.specs.declared.Refusal.the-variants.{Shape, Ends, Reach, Scan as OffScan}
 use Rattle.meaning.specs.Refusals.{Said, Gives, Number, numberOf, Trial, tried, callOrder, judged}
 use Rattle.meaning.specs.Sequence.{Source}
+use Rattle.meaning.proofs.Tried.{refuses as refusedFirst, refused-exactly as tests-refuse, given-exactly as tests-give}
+use Rattle.meaning.proofs.Unique.{number-apart}
 use Rattle.loftsplice.specs.declared.scan.Scan.{Scan}
 use Rattle.loftsplice.specs.Scan.{badScan}
 use Rattle.theorems.specs.Exact.{earlier, NoneOf, accepted, soundSource}
-use Rattle.theorems.proofs.Reading.{reading, sure, sure-first}
-use Rattle.theorems.proofs.Unique.{number-apart}
 
 -- ---- any conditions f, tried in any order
 
@@ -41,38 +42,34 @@ module _ (f : Refusal → Bool) where
       other : eqb (numberOf v) (numberOf w) ≡ false
       other = ne-eqb (numberOf v) (numberOf w) (λ q. clash (g .2) (ap f (sym (number-apart v w q)) ∙ e))
 
-  -- an answer x, which is no refusal, after them
-  module _ {A : Type 0} (x : Said A) (answers : accepted x ≡ true) where
-    abbrev outcome : List Refusal → Said A
-    outcome vs = tried Number (trials f vs) x
+  -- tests that refuse by a number: one of that number is given,
+  refuses-given : (n : ℕ) (vs : List Refusal) → refusedFirst n (trials f vs) ≡ true → (w : Refusal) × (n ≡ numberOf w) × Given f vs w
+  unfolding refusedFirst
+  refuses-given n [] h = absurd (false≢true h)
+  refuses-given n (v ∷ vs) h =
+      either (f v)
+      (λ t. (v, sym (eqb-true (numberOf v) n (rw t at h)), given-here v vs t))
+      (λ t. let r = refuses-given n vs (rw t at h) in (r .0, r .1, given-later v (r .0) vs t (r .2)))
 
-    -- what is refused is refused by one that is given,
-    refused-by : (n : ℕ) (vs : List Refusal) → outcome vs ≡ Number n → (w : Refusal) × (n ≡ numberOf w) × Given f vs w
-    unfolding tried
-    refused-by n [] h = clash answers (ap accepted h)
-    refused-by n (v ∷ vs) h =
-        either (f v)
-        (λ t. let e : Number (numberOf v) ≡ Number n = rw t at h in (v, (cc), given-here v vs t))
-        (λ t. let r = refused-by n vs (rw t at h) in (r .0, r .1, given-later v (r .0) vs t (r .2)))
+  -- and one that is given refuses by its number
+  given-refuses : (w : Refusal) (vs : List Refusal) → Given f vs w → refusedFirst (numberOf w) (trials f vs) ≡ true
+  unfolding refusedFirst earlier
+  given-refuses w [] g = absurd (g .0)
+  given-refuses w (v ∷ vs) g = split (eqb (numberOf v) (numberOf w)) refl (g .0) (g .1) (given-refuses w vs)
+    where
+      split : (t : Bool) → eqb (numberOf v) (numberOf w) ≡ t → In w (v ∷ vs) → NoneOf f (cond t [] (v ∷ earlier w vs))
+          → (Given f vs w → refusedFirst (numberOf w) (trials f vs) ≡ true) → cond (f v) (eqb (numberOf v) (numberOf w)) (refusedFirst (numberOf w) (trials f vs)) ≡ true
+      split true e i none rest = rw (ap f (number-apart v w (eqb-true (numberOf v) (numberOf w) e)) ∙ g .2, e)
+      split false e (inl q) none rest = absurd (eqb-false (numberOf v) (numberOf w) e (ap numberOf (sym q)))
+      split false e (inr i) none rest = rw (none .0) (rest (i, none .1, g .2))
 
-    -- and one that is given refuses
-    given-refuses : (w : Refusal) (vs : List Refusal) → Given f vs w → outcome vs ≡ Number (numberOf w)
-    unfolding tried earlier
-    given-refuses w [] g = absurd (g .0)
-    given-refuses w (v ∷ vs) g = split (eqb (numberOf v) (numberOf w)) refl (g .0) (g .1) (given-refuses w vs)
-      where
-        split : (t : Bool) → eqb (numberOf v) (numberOf w) ≡ t → In w (v ∷ vs) → NoneOf f (cond t [] (v ∷ earlier w vs))
-            → (Given f vs w → outcome vs ≡ Number (numberOf w)) → cond (f v) (Number (numberOf v)) (outcome vs) ≡ Number (numberOf w)
-        split true e i none rest = let q = number-apart v w (eqb-true (numberOf v) (numberOf w) e) in rw (q, g .2)
-        split false e (inl q) none rest = absurd (eqb-false (numberOf v) (numberOf w) e (ap numberOf (sym q)))
-        split false e (inr i) none rest = rw (none .0) (rest (i, none .1, g .2))
-
-    -- it is accepted exactly if none holds
-    none-accepts : (vs : List Refusal) → (accepted (outcome vs) ≡ true) ↔ NoneOf f vs
-    unfolding tried
-    none-accepts [] = (λ h. tt, λ h. answers)
-    none-accepts (v ∷ vs) =
-        either (f v) (λ t. rw t (λ h. absurd (false≢true h), λ h. absurd (false≢true (sym (h .0))))) (λ t. rw t (Iff·trans (none-accepts vs) (Iff·symm sure)))
+-- what is accepted gives something
+accepts-given : {A : Type 0} (x : Said A) → (accepted x ≡ true) ↔ ((a : A) × (x ≡ Gives a))
+accepts-given x = (gave x, λ h. ap accepted (h .1))
+  where
+    gave : {A : Type 0} (y : Said A) → accepted y ≡ true → (a : A) × (y ≡ Gives a)
+    gave (Gives a) h = (a, refl)
+    gave (Number n) h = absurd (false≢true h)
 
 -- ---- a call: what it says, how it refuses, what it does
 
@@ -87,6 +84,10 @@ module _ {A B : Type 0} {said : A → Said B} {refuse : ℕ → A} {answer : A} 
   said-tried [] = refl
   said-tried (t ∷ ts) = either (t .holds) (λ h. rw h (call .refuses (numberOf (t .why)))) (λ h. rw h (said-tried ts))
 
+  -- and comes to what tests refuse or give
+  said-is : (ts : List Trial) → said (tried refuse ts answer) ≡ tried Number ts (Gives (accepts-given (said answer) .0 (call .accepts) .0))
+  said-is ts = said-tried ts ∙ ap (tried Number ts) (accepts-given (said answer) .0 (call .accepts) .1)
+
   -- it answers, or it refuses
   two-ways : (ts : List Trial) → (tried refuse ts answer ≡ answer) ⊎ ((n : ℕ) × (tried refuse ts answer ≡ refuse n))
   unfolding tried
@@ -99,18 +100,18 @@ module _ {A B : Type 0} {said : A → Said B} {refuse : ℕ → A} {answer : A} 
 
     -- no number is given but that of a refusal that calls apply: none before it holds, and it does,
     pub refused-number : (n : ℕ) → said result ≡ Number n → (w : Refusal) × (n ≡ numberOf w) × Given f callOrder w
-    refused-number n h = refused-by f (said answer) (call .accepts) n callOrder (sym (said-tried (trials f callOrder)) ∙ h)
+    refused-number n h = refuses-given f n callOrder (tests-refuse _ n (trials f callOrder) .0 (sym (said-is (trials f callOrder)) ∙ h))
 
     -- "Given exactly if"
     pub refused-exactly : (w : Refusal) → (said result ≡ Number (numberOf w)) ↔ Given f callOrder w
     refused-exactly w = (
       λ h. let r = refused-number (numberOf w) h in rw (number-apart w (r .0) (r .1)) (r .2),
-      λ g. said-tried (trials f callOrder) ∙ given-refuses f (said answer) (call .accepts) w callOrder g,
+      λ g. said-is (trials f callOrder) ∙ tests-refuse _ (numberOf w) (trials f callOrder) .1 (given-refuses f w callOrder g),
     )
 
     -- accepted exactly if none holds
     pub accepted-exactly : (accepted (said result) ≡ true) ↔ NoneOf f callOrder
-    accepted-exactly = rw (said-tried (trials f callOrder)) (none-accepts f (said answer) (call .accepts) callOrder)
+    accepted-exactly = rw (said-is (trials f callOrder)) (Iff·trans (accepts-given _) (tests-give _ (trials f callOrder)))
 
     -- "A refusal returns its number; scan and filter come back as they went in": what is refused is nothing but `refuse`
     pub refused-is : accepted (said result) ≡ false → (n : ℕ) × (result ≡ refuse n)

@@ -9,6 +9,7 @@ use lib.Dec.{ltb}
 use lib.IntN.{ℤ}
 use Rattle.ranges.specs.Ranges.{someOf}
 use Rattle.ranges.proofs.Bools.{either, not-yes, not-no}
+use Rattle.ranges.proofs.Reading.{reading, either-below}
 use Rattle.meaning.specs.declared.Refusal.{Refusal}
 use Rattle.meaning.specs.declared.Refusal.the-variants.{Order, Bounds as OverBounds, Input as NoInput}
 use Rattle.meaning.specs.Refusals.{Said, Gives, Number, nothing, also}
@@ -23,7 +24,6 @@ use Rattle.loftsplice.specs.Scan.{Outcome, badScan}
 use Rattle.bounds.specs.Bounds.{bounds}
 use Rattle.filter_interval.specs.Filter.{Call, Sifting, newFilter, accepts, settle, stepFrom, tooMany, unread, onFilter, refuseCall, fitOf, callOf, filterCurrentOf, upperOf, lowerOf, raised, arrive, moveScan}
 use Rattle.theorems.specs.Exact.{earlier, accepted, soundSource, allReadable}
-use Rattle.theorems.proofs.Reading.{reading, either-below}
 use Rattle.theorems.proofs.Exactly.{Speaks, plainly, exact, accepted-exactly, refused-is, accepted-is, OfScan, scan-tests}
 use Rattle.theorems.proofs.ScanCalls.{scan-refuses, scan-accepts}
 

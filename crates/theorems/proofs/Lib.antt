@@ -1,4 +1,3 @@
-pub mod Reading
 pub mod Unique
 pub mod Exactly
 pub mod ColumnCalls

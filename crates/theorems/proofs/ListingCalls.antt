@@ -13,7 +13,7 @@ use Rattle.loftsplice.specs.Listing.{onListing, listOf}
 use Rattle.loftsplice.proofs.ListingCases.{left-as-was, left-filled}
 use Rattle.theorems.specs.Exact.{earlier, accepted, soundSource}
 use Rattle.theorems.specs.Batch.{Batch, answer, values, numbers, outAfter, countsAfter, wide, allInside, allRise}
-use Rattle.theorems.proofs.Reading.{reading, either-below}
+use Rattle.ranges.proofs.Reading.{reading, either-below}
 use Rattle.theorems.proofs.Exactly.{plainly, exact, accepted-exactly, refused-is, accepted-is, OfSource, source-tests}
 
 -- "The listing tries each test on all windows before the next test": 1, 2, 3, 8, 5, 7, 10

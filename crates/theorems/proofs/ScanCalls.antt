@@ -8,6 +8,7 @@ use lib.Dec.{ltb}
 use lib.IntN.{ℤ}
 use Rattle.ranges.specs.Ranges.{someOf}
 use Rattle.ranges.proofs.Bools.{either}
+use Rattle.ranges.proofs.Reading.{reading, same-test}
 use Rattle.meaning.specs.declared.Refusal.{Refusal}
 use Rattle.meaning.specs.declared.Refusal.the-variants.{Window, Order}
 use Rattle.meaning.specs.Refusals.{Said, Gives, Number, also, judged}
@@ -19,7 +20,6 @@ use Rattle.loftsplice.specs.Scan.{Outcome, fresh, goTo, nextFrom, seekFrom, ele
 use Rattle.filter_interval.specs.Filter.{Move, Next, Seek, moveScan}
 use Rattle.theorems.specs.Exact.{earlier, accepted, soundSource}
 use Rattle.theorems.specs.Runs.{scanMove, allowedScan}
-use Rattle.theorems.proofs.Reading.{reading, same-test}
 use Rattle.theorems.proofs.Exactly.{Speaks, plainly, says, exact, accepted-exactly, refused-is, accepted-is, OfSource, OfScan, source-tests, scan-tests}
 
 -- ---- making a scan

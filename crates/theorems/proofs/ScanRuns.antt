@@ -14,6 +14,7 @@ use lib.Signed.{ltZ}
 use Rattle.ranges.specs.Ranges.{every}
 use Rattle.ranges.proofs.Bools.{either, and-left, and-right, or-true, every-at, at-every, same-after}
 use Rattle.ranges.proofs.Spans.{first-known, first-now}
+use Rattle.ranges.proofs.Reading.{reading}
 use Rattle.meaning.specs.Refusals.{Gives}
 use Rattle.meaning.specs.Sequence.{Sequence, Source, rises, firstNotBelow, elementsIn}
 use Rattle.loftsplice.specs.declared.scan.State.{State}
@@ -25,7 +26,6 @@ use Rattle.loftsplice.specs.Listing.{those}
 use Rattle.theorems.specs.Exact.{accepted, soundSource}
 use Rattle.theorems.specs.Demand3.{earliest, answerAt, expectedFrom}
 use Rattle.theorems.specs.Runs.{scanMove, scanAnswers, isNext, allowedScan, risingWindow, listing, standing, anything}
-use Rattle.theorems.proofs.Reading.{reading}
 use Rattle.theorems.proofs.ScanCalls.{seek-keeps, move-accepts, move-does, move-keeps}
 use Rattle.theorems.proofs.Moves.{Landing, Restricted, fresh-restricted, restricted-bad, move-restricted}
 use Rattle.theorems.proofs.DocComments.{sought-lands, seek-finds}

@@ -1,17 +1,15 @@
 -- "the promise leaves one possible result .., and a proof says that two results meeting it are equal". Assumes nothing.
-use Prim.Native.Nat.{ℕ, _-_}
-use mathlib.Core.Path.{_≡_, refl, sym, ap, _∙_}
+use Prim.Native.Nat.{ℕ}
+use mathlib.Core.Path.{_≡_, refl, ap}
 use mathlib.Core.Bool.{true, false}
-use mathlib.Core.List.{List, [], _∷_}
+use mathlib.Core.List.{List}
 use mathlib.Core.Option.{Option, some, none}
-use lib.ListN.{getD}
 use lib.IntN.{ℤ}
-use Rattle.meaning.specs.declared.Refusal.{Refusal}
-use Rattle.meaning.specs.declared.Refusal.the-variants.{Shape, Ends, Reach, Index, Window, Scan as OffScan, Order, Bounds as OverBounds, Input as NoInput, Room, Cut, Kind, Size}
-use Rattle.meaning.specs.Refusals.{Said, Gives, Number, numberOf}
+use Rattle.meaning.specs.Refusals.{Said}
 use Rattle.meaning.specs.Sequence.{Source}
 use Rattle.meaning.specs.Column.{Column}
 use Rattle.meaning.specs.Calls.{diffStepOf, checkOf, lenOf, isEmptyOf, placeOf, getOf}
+use Rattle.meaning.proofs.Unique.{Injective, one-result, undone, answering, refusal-is}
 use Rattle.loftsplice.specs.declared.run_length_encodable.Difference.{Difference}
 use Rattle.loftsplice.specs.declared.run_length_encodable.Difference.the-variants.{Step, None as NoStep}
 use Rattle.checked.specs.declared.Checked.{Checked}
@@ -46,56 +44,10 @@ use Rattle.loftsplice.specs.Listing.{saysListed}
 use Rattle.filter_interval.specs.Filter.{Call, saysFitted, siftingOf, fitOf, callOf, filterCurrentOf, filterResetOf}
 use Rattle.theorems.specs.Batch.{Batch, answer, outAfter, countsAfter}
 
--- ---- the law
-
--- what is said tells the results apart
-abbrev pub Injective : {A B : Type 0} → (A → B) → Type 0
-Injective {A} says = (x y : A) → says x ≡ says y → x ≡ y
-
--- two results that meet one promise are equal
-pub one-result : {A B : Type 0} (says : A → B) → Injective says → {s : B} (x y : A) → says x ≡ s → says y ≡ s → x ≡ y
-one-result says apart x y p q = apart x y (p ∙ sym q)
-
--- what can be undone tells its arguments apart
-pub undone : {A B : Type 0} (says : A → B) (back : B → A) → ((x : A) → back (says x) ≡ x) → Injective says
-undone says back is x y e = sym (is x) ∙ ap back e ∙ is y
-
--- ---- the numbers
-
--- the refusal of a number
-abbrev refusalOf : ℕ → Refusal
-refusalOf n = getD (Shape ∷ Ends ∷ Reach ∷ Index ∷ Window ∷ OffScan ∷ Order ∷ OverBounds ∷ NoInput ∷ Room ∷ Cut ∷ Kind ∷ Size ∷ []) (n - 1) Shape
-
-refusal-is : (why : Refusal) → refusalOf (numberOf why) ≡ why
-refusal-is = elim [
-  | Shape ↦ refl
-  | Ends ↦ refl
-  | Reach ↦ refl
-  | Index ↦ refl
-  | Window ↦ refl
-  | OffScan ↦ refl
-  | Order ↦ refl
-  | OverBounds ↦ refl
-  | NoInput ↦ refl
-  | Room ↦ refl
-  | Cut ↦ refl
-  | Kind ↦ refl
-  | Size ↦ refl
-]
-
--- no two refusals have one number
-pub number-apart : Injective numberOf
-number-apart = undone numberOf refusalOf refusal-is
-
 -- ---- what each answer says
 
 pub difference-apart : Injective saysDifference
 difference-apart = undone saysDifference (elim [ some d ↦ Step d | none ↦ NoStep ]) (elim [ Step d ↦ refl | NoStep ↦ refl ])
-
--- the answer that says this, by what it gives and how it refuses
-abbrev answering : {A B : Type 0} → (B → A) → (Refusal → A) → Said B → A
-answering give refused (Gives b) = give b
-answering give refused (Number n) = refused (refusalOf n)
 
 pub checked-apart : Injective saysChecked
 checked-apart = undone saysChecked (answering (λ x. Fine) CheckedRefused) (elim [ Fine ↦ refl | CheckedRefused w ↦ ap CheckedRefused (refusal-is w) ])

@@ -29,7 +29,6 @@
 //   Bounds        the folded bound is met exactly if every bound is, but for a tie
 //
 // What stands behind them, proofs/:
-//   Reading       tests read as the facts that they say
 //   Moves         where a next or seek leads, and that it keeps to its window
 //   Windows       the order of the elements of a window that rises
 //   Expected      the laws of the expected answers
