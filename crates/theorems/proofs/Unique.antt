@@ -1,7 +1,7 @@
 -- "the promise leaves one possible result .., and a proof says that two results meeting it are equal". Assumes nothing.
 use Prim.Native.Nat.{ℕ}
 use mathlib.Core.Path.{_≡_, refl, ap}
-use mathlib.Core.Bool.{true, false}
+use mathlib.Core.Bool.{Bool, true, false}
 use mathlib.Core.List.{List}
 use mathlib.Core.Option.{Option, some, none}
 use lib.IntN.{ℤ}
@@ -32,6 +32,12 @@ use Rattle.loftsplice.specs.declared.scan.Made.the-variants.{Ready as MadeReady
 use Rattle.loftsplice.specs.declared.scan.Moved.{Moved}
 use Rattle.filter_interval.specs.declared.Filter.{Filter}
 use Rattle.bounds.specs.declared.Bounds.{Bounds}
+use Rattle.bounds.specs.declared.Limit.{Limit}
+use Rattle.bounds.specs.declared.Reading.{Reading}
+use Rattle.bounds.specs.declared.Reading.the-variants.{As, Refused as ReadingRefused}
+use Rattle.bounds.specs.Bounds.{saysReading}
+use Rattle.loftsplice.specs.declared.leading.Lead.{Lead}
+use Rattle.loftsplice.specs.Lead.{leadOf}
 use Rattle.filter_interval.specs.declared.Fitted.{Fitted}
 use Rattle.filter_interval.specs.declared.Fitted.the-variants.{Ready as FittedReady, Refused as FittedRefused}
 use Rattle.filter_interval.specs.declared.Sifted.{Sifted}
@@ -67,6 +73,9 @@ got-apart = undone saysGot (answering GotValue GotRefused) (elim [ GotValue v �
 
 pub listed-apart : Injective saysListed
 listed-apart = undone saysListed (answering Sum ListedRefused) (elim [ Sum n ↦ refl | ListedRefused w ↦ ap ListedRefused (refusal-is w) ])
+
+pub reading-apart : Injective saysReading
+reading-apart = undone saysReading (answering As ReadingRefused) (elim [ As l ↦ refl | ReadingRefused w ↦ ap ReadingRefused (refusal-is w) ])
 
 pub made-apart : Injective saysMade
 made-apart = undone saysMade (answering MadeReady MadeRefused) (elim [ MadeReady s ↦ refl | MadeRefused w ↦ ap MadeRefused (refusal-is w) ])
@@ -115,6 +124,10 @@ module _ (c : Column) where
   pub get-one : (i : ℕ) (x y : Got) → saysGot x ≡ getOf c i → saysGot y ≡ getOf c i → x ≡ y
   get-one i = one-result saysGot got-apart
 
+-- variable bounds read: whatever the promise says, here said
+pub read-one : (said : Said Limit) (x y : Reading) → saysReading x ≡ said → saysReading y ≡ said → x ≡ y
+read-one said = one-result saysReading reading-apart
+
 module _ (p : Source) where
   pub new-one : (x y : Made) → saysMade x ≡ newOf p → saysMade y ≡ newOf p → x ≡ y
   new-one = one-result saysMade made-apart
@@ -131,6 +144,10 @@ module _ (p : Source) where
 
     pub reset-one : (x y : Moved) → outcomeOf x ≡ resetOf p s → outcomeOf y ≡ resetOf p s → x ≡ y
     reset-one = one-result outcomeOf outcome-apart
+
+    -- a scan that a filter leads
+    pub led-one : (many unread : Bool) (to : Lead) (x y : Moved) → outcomeOf x ≡ leadOf p many unread to s → outcomeOf y ≡ leadOf p many unread to s → x ≡ y
+    led-one many unread to = one-result outcomeOf outcome-apart
 
     pub current-one : (x y : Answer) → saysAnswer x ≡ currentOf p s → saysAnswer y ≡ currentOf p s → x ≡ y
     current-one = one-result saysAnswer answer-apart
