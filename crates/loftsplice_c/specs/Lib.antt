@@ -4,3 +4,4 @@ pub mod Column
 pub mod Scan
 pub mod Bounds
 pub mod Filter
+pub mod Listing

@@ -1,11 +1,10 @@
 // Bounds, variable bounds and inputs as numbers: each is two lists that belong together, the second with a kind for each of the first.
 ghost use mathlib.Core.Path.{_≡_};
-ghost use mathlib.Core.Bool.{cond};
-ghost use lib.Dec.{eqb};
+ghost use mathlib.Core.Bool.{_&&_};
 ghost use lib.IntN.{pos};
 ghost use lib.ListN.{getD};
 ghost use Rattle.ranges.specs.Ranges.{every};
-ghost use Rattle.loftsplice_c.specs.Bounds.{kindNumber, flatLimit, boundaryOf, limitOf, between, paired, boundsOf, variablesOf, inputAt, inputsOf};
+ghost use Rattle.loftsplice_c.specs.Bounds.{kindNumber, flatLimit, boundaryOf, limitOf, between, paired, kinds, boundsOf, variablesOf, inputAt, inputsOf};
 use loftsplice::filter_interval::Bound;
 use loftsplice::filter_interval::BoundaryType;
 use loftsplice::filter_interval::Bounds;
@@ -94,6 +93,17 @@ pub(crate) fn is_paired(low: u8, high: u8, count: usize, numbers: &[u8]) -> bool
 {
     if count == numbers.len() {
         all_between(low, high, numbers)
+    } else {
+        false
+    }
+}
+
+// Whether two lists of bounds have the form.
+pub(crate) fn are_bounds(lower: usize, lowkinds: &[u8], upper: usize, upkinds: &[u8]) -> bool
+    ensures { λ r. ⌜ r ≡ (kinds lower (now (lowkinds .entry)) && kinds upper (now (upkinds .entry))) ⌝ }
+{
+    if is_paired(1, 2, lower, lowkinds) {
+        is_paired(1, 2, upper, upkinds)
     } else {
         false
     }

@@ -11,6 +11,7 @@ ghost use Rattle.loftsplice_c.specs.Filter.{goodFilter, filterStateOf, f
 use crate::answer::FlatAnswer;
 use crate::answer::flat_answer;
 use crate::bounds::FlatLimit;
+use crate::bounds::are_bounds;
 use crate::bounds::bounds_of;
 use crate::bounds::flat_limit;
 use crate::bounds::inputs_of;
@@ -211,13 +212,11 @@ fn no_filter(refusal: u32) -> FlatNewFilter
 fn is_fit(state: u32, lower: usize, lowkinds: &[u8], upper: usize, upkinds: &[u8]) -> bool
     ensures { λ r. ⌜ r ≡ (isState state && kinds lower (now (lowkinds .entry)) && kinds upper (now (upkinds .entry))) ⌝ }
 {
-    if !is_state(state) {
-        return false;
+    if is_state(state) {
+        are_bounds(lower, lowkinds, upper, upkinds)
+    } else {
+        false
     }
-    if !is_paired(1, 2, lower, lowkinds) {
-        return false;
-    }
-    is_paired(1, 2, upper, upkinds)
 }
 
 // Whether what a call is handed has the form: the filter, and each list.

@@ -5,4 +5,5 @@ pub mod answer;
 pub mod bounds;
 pub mod column;
 pub mod filter;
+pub mod listing;
 pub mod scan;
