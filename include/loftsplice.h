@@ -142,6 +142,12 @@ typedef struct loftsplice_reset {
     loftsplice_filter filter;
 } loftsplice_reset;
 
+/* The number of values written. */
+typedef struct loftsplice_listed {
+    uint32_t refusal;
+    uint64_t sum;
+} loftsplice_listed;
+
 /* ---- the column */
 
 /* Whether the three lists are a column: 0, or refused 1, 2, 3. */
@@ -221,6 +227,15 @@ loftsplice_answer loftsplice_filter_current(loftsplice_filter filter, const int6
 
 /* Before again, the scan as it stands; or refused 100. */
 loftsplice_reset loftsplice_filter_reset(loftsplice_filter filter);
+
+/* ---- the batch listing */
+
+/* Writes the values of each window from[i]..to[i] that meet the constant bounds into out, window by window, and each window's number of values into
+ * counts; answers their sum. What it does not fill stays as it was; a refusal writes nothing. Refused 100, 1, 2, 3, 8, 5, 7, 10. */
+loftsplice_listed loftsplice_list(const int64_t *starts, size_t starts_len, const uint64_t *ends, size_t ends_len, const int16_t *steps,
+    size_t steps_len, const uint64_t *from, size_t from_len, const uint64_t *to, size_t to_len, const int64_t *lower_values,
+    size_t lower_values_len, const uint8_t *lower_kinds, size_t lower_kinds_len, const int64_t *upper_values, size_t upper_values_len,
+    const uint8_t *upper_kinds, size_t upper_kinds_len, int64_t *out, size_t out_len, uint64_t *counts, size_t counts_len);
 
 #ifdef __cplusplus
 }

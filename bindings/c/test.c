@@ -447,10 +447,52 @@ static void filters(void) {
     CALL_REFUSED(C, no_filter, no_lists, LOFTSPLICE_FORM);
 }
 
+/* A listing into 8 places of output and 4 of counts, which hold -77 and 99 before; the first of them are compared with what is wanted. */
+static void listing_at(int line, column c, const uint64_t *from, size_t from_len, const uint64_t *to, size_t to_len, const int64_t *low, size_t low_len,
+    const uint8_t *low_kinds, size_t low_kinds_len, size_t out_len, size_t counts_len, uint32_t refusal, const int64_t *values, size_t sum,
+    const uint64_t *counts_wanted, size_t windows) {
+    static const int64_t at_most[] = {140};
+    static const uint8_t kinds[] = {LOFTSPLICE_INCLUSIVE};
+    int64_t out[8];
+    uint64_t counts[4];
+    for (size_t i = 0; i < 8; i++) out[i] = -77;
+    for (size_t i = 0; i < 4; i++) counts[i] = 99;
+    loftsplice_listed l = loftsplice_list(LISTS(c), from, from_len, to, to_len, low, low_len, low_kinds, low_kinds_len, at_most, 1, kinds, 1, out,
+        out_len, counts, counts_len);
+    same_at("listed.refusal", line, l.refusal, refusal);
+    same_at("listed.sum", line, (int64_t)l.sum, (int64_t)sum);
+    for (size_t i = 0; i < 8; i++) same_at("out", line, out[i], i < sum ? values[i] : -77);
+    for (size_t i = 0; i < 4; i++) same_at("counts", line, (int64_t)counts[i], i < windows ? (int64_t)counts_wanted[i] : 99);
+}
+#define LISTING(...) listing_at(__LINE__, __VA_ARGS__)
+
+static void listings(void) {
+    static const uint64_t from[] = {3, 7, 3}, to[] = {6, 9, 5}, past[] = {6, 10, 5};
+    static const int64_t above[] = {25}, all[] = {30, 31, 140, 30};
+    static const uint64_t counts[] = {2, 1, 1};
+    static const uint8_t exclusive[] = {LOFTSPLICE_EXCLUSIVE, LOFTSPLICE_EXCLUSIVE}, no_kind[] = {LOFTSPLICE_FREE};
+    LISTING(C, from, 3, to, 3, above, 1, exclusive, 1, 8, 4, 0, all, 4, counts, 3);
+    LISTING(C, from, 3, to, 3, above, 1, exclusive, 1, 4, 3, 0, all, 4, counts, 3);
+    LISTING(C, NULL, 0, NULL, 0, above, 1, exclusive, 1, 0, 0, 0, all, 0, counts, 0);
+    LISTING(C, from, 3, to, 3, above, 1, exclusive, 1, 3, 4, LOFTSPLICE_ROOM, all, 0, counts, 0);
+    LISTING(C, from, 3, to, 3, above, 1, exclusive, 1, 8, 2, LOFTSPLICE_ROOM, all, 0, counts, 0);
+    LISTING(C, from, 3, past, 3, above, 1, exclusive, 1, 8, 4, LOFTSPLICE_WINDOW, all, 0, counts, 0);
+    LISTING(C, from, 3, to, 2, above, 1, exclusive, 1, 8, 4, LOFTSPLICE_BOUNDS, all, 0, counts, 0);
+    LISTING(D, from, 0, to, 0, above, 1, exclusive, 1, 8, 4, 0, all, 0, counts, 0);
+    static const uint64_t zero[] = {0}, five[] = {5};
+    LISTING(D, zero, 1, five, 1, above, 1, exclusive, 1, 8, 4, LOFTSPLICE_ORDER, all, 0, counts, 0);
+    LISTING(uneven, from, 3, to, 2, above, 1, exclusive, 1, 8, 4, LOFTSPLICE_SHAPE, all, 0, counts, 0);
+    LISTING(uneven, from, 3, to, 2, above, 1, exclusive, 2, 8, 4, LOFTSPLICE_FORM, all, 0, counts, 0);
+    LISTING(C, from, 3, to, 3, above, 1, no_kind, 1, 8, 4, LOFTSPLICE_FORM, all, 0, counts, 0);
+    static uint64_t many[257];
+    LISTING(C, many, 257, many, 257, above, 1, exclusive, 1, 8, 4, LOFTSPLICE_BOUNDS, all, 0, counts, 0);
+}
+
 int main(void) {
     columns();
     scans();
     filters();
+    listings();
     printf("c-test: %lu comparisons, %lu failed\n", made, failed);
     return failed != 0;
 }

@@ -22,6 +22,7 @@
 mod bound;
 mod column;
 mod filter;
+mod listing;
 pub mod raw;
 mod refusal;
 mod scan;
@@ -31,5 +32,6 @@ mod sys;
 pub use bound::{Bound, Variables};
 pub use column::{diff_step, Column, Place};
 pub use filter::{Filter, FilterState, Values};
+pub use listing::list;
 pub use refusal::Refusal;
 pub use scan::{Scan, ScanState};

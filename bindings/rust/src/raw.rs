@@ -14,7 +14,7 @@
 
 pub use crate::sys::{
     check, diff_step, filter_current, filter_new, filter_next, filter_reset, filter_seek, get,
-    is_empty, len, place, scan_current, scan_narrow, scan_new, scan_next, scan_pos, scan_reset,
+    is_empty, len, list, place, scan_current, scan_narrow, scan_new, scan_next, scan_pos, scan_reset,
     scan_seek,
 };
 
@@ -217,4 +217,14 @@ pub struct Variables<'a> {
     pub input_values: &'a [i64],
     /// Whether each input has a value: 1 or 0.
     pub input_found: &'a [u8],
+}
+
+/// The number of values written.
+#[repr(C)]
+#[derive(Clone, Copy, Debug, PartialEq, Eq)]
+pub struct Listed {
+    /// The refusal's number, or 0.
+    pub refusal: u32,
+    /// The number of values written.
+    pub sum: u64,
 }

@@ -3,7 +3,7 @@
 //! Each exported function is proved to be total (it has no condition for its caller), to read only the places of the lists that it is lent, and to
 //! keep no pointer. What is left to show at each call is said there.
 use crate::raw::{
-    Answer, Difference, Emptiness, Filter, Length, Moved, NewFilter, NewScan, Place, Position,
+    Answer, Difference, Emptiness, Filter, Length, Listed, Moved, NewFilter, NewScan, Place, Position,
     Reset, Scan, Sifted, Variables,
 };
 
@@ -179,6 +179,30 @@ extern "C" {
         steps: *const i16,
         steps_len: usize,
     ) -> Answer;
+    fn loftsplice_list(
+        starts: *const i64,
+        starts_len: usize,
+        ends: *const u64,
+        ends_len: usize,
+        steps: *const i16,
+        steps_len: usize,
+        from: *const u64,
+        from_len: usize,
+        to: *const u64,
+        to_len: usize,
+        lower_values: *const i64,
+        lower_values_len: usize,
+        lower_kinds: *const u8,
+        lower_kinds_len: usize,
+        upper_values: *const i64,
+        upper_values_len: usize,
+        upper_kinds: *const u8,
+        upper_kinds_len: usize,
+        out: *mut i64,
+        out_len: usize,
+        counts: *mut u64,
+        counts_len: usize,
+    ) -> Listed;
     fn loftsplice_filter_reset(filter: Filter) -> Reset;
 }
 
@@ -500,4 +524,51 @@ pub fn filter_current(filter: Filter, starts: &[i64], ends: &[u64], steps: &[i16
 pub fn filter_reset(filter: Filter) -> Reset {
     // SAFETY: only numbers are handed over, and every number is allowed.
     unsafe { loftsplice_filter_reset(filter) }
+}
+
+/// Writes the values of each window that meet the constant bounds into `out`, window by window, and each window's number of values into `counts`;
+/// answers their sum. Or refused 100, 1, 2, 3, 8, 5, 7, 10.
+// A window list, a bound list and an output are two lists each here, as they cross.
+#[allow(clippy::too_many_arguments)]
+pub fn list(
+    starts: &[i64],
+    ends: &[u64],
+    steps: &[i16],
+    from: &[u64],
+    to: &[u64],
+    lower_values: &[i64],
+    lower_kinds: &[u8],
+    upper_values: &[i64],
+    upper_kinds: &[u8],
+    out: &mut [i64],
+    counts: &mut [u64],
+) -> Listed {
+    // SAFETY: each pointer and length are those of a slice that is borrowed for the whole call, the two that are written of slices borrowed for
+    // writing, so that they overlap with no other; and every number is allowed.
+    unsafe {
+        loftsplice_list(
+            starts.as_ptr(),
+            starts.len(),
+            ends.as_ptr(),
+            ends.len(),
+            steps.as_ptr(),
+            steps.len(),
+            from.as_ptr(),
+            from.len(),
+            to.as_ptr(),
+            to.len(),
+            lower_values.as_ptr(),
+            lower_values.len(),
+            lower_kinds.as_ptr(),
+            lower_kinds.len(),
+            upper_values.as_ptr(),
+            upper_values.len(),
+            upper_kinds.as_ptr(),
+            upper_kinds.len(),
+            out.as_mut_ptr(),
+            out.len(),
+            counts.as_mut_ptr(),
+            counts.len(),
+        )
+    }
 }
