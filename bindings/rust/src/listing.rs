@@ -25,10 +25,24 @@ pub fn list(
     out: &mut [i64],
     counts: &mut [u64],
 ) -> Result<u64, Refusal> {
-    let (from, to): (Vec<u64>, Vec<u64>) = windows.iter().map(|window| (window.start, window.end)).unzip();
+    let (from, to): (Vec<u64>, Vec<u64>) = windows
+        .iter()
+        .map(|window| (window.start, window.end))
+        .unzip();
     let (lows, low_kinds) = lists(lower, |value| value);
     let (ups, up_kinds) = lists(upper, |value| value);
-    let listed =
-        raw::list(column.starts(), column.ends(), column.steps(), &from, &to, &lows, &low_kinds, &ups, &up_kinds, out, counts);
+    let listed = raw::list(
+        column.starts(),
+        column.ends(),
+        column.steps(),
+        &from,
+        &to,
+        &lows,
+        &low_kinds,
+        &ups,
+        &up_kinds,
+        out,
+        counts,
+    );
     Refusal::or(listed.refusal, listed.sum)
 }

@@ -14,8 +14,8 @@
 
 pub use crate::sys::{
     check, diff_step, filter_current, filter_new, filter_next, filter_reset, filter_seek, get,
-    is_empty, len, list, place, scan_current, scan_narrow, scan_new, scan_next, scan_pos, scan_reset,
-    scan_seek,
+    is_empty, len, list, place, scan_current, scan_narrow, scan_new, scan_next, scan_pos,
+    scan_reset, scan_seek,
 };
 
 /// The refusal of a number that is no state or kind, and of two lists that belong together and differ in length; tried before all others.

@@ -3,8 +3,8 @@
 //! Each exported function is proved to be total (it has no condition for its caller), to read only the places of the lists that it is lent, and to
 //! keep no pointer. What is left to show at each call is said there.
 use crate::raw::{
-    Answer, Difference, Emptiness, Filter, Length, Listed, Moved, NewFilter, NewScan, Place, Position,
-    Reset, Scan, Sifted, Variables,
+    Answer, Difference, Emptiness, Filter, Length, Listed, Moved, NewFilter, NewScan, Place,
+    Position, Reset, Scan, Sifted, Variables,
 };
 
 extern "C" {
