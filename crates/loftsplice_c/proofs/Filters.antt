@@ -3,21 +3,21 @@ use mathlib.Core.Path.{_≡_, refl, ap, _∙_}
 use mathlib.Core.Bool.{Bool, true, false, _&&_}
 use lib.Dec.{eqb}
 use Rattle.meaning.specs.Refusals.{Said, Number}
-use Rattle.loftsplice.specs.declared.filter_interval.BoundaryType.{BoundaryType}
-use Rattle.loftsplice.specs.declared.filter_interval.BoundaryType.the-variants.{Inclusive, Exclusive}
-use Rattle.loftsplice.specs.declared.filter_interval.Limit.{Limit}
-use Rattle.loftsplice.specs.declared.filter_interval.Limit.the-variants.{Free, To}
-use Rattle.loftsplice.specs.declared.filter_interval.FilterState.{FilterState}
-use Rattle.loftsplice.specs.declared.filter_interval.FilterState.the-variants.{Before, Within, After}
-use Rattle.loftsplice.specs.declared.filter_interval.Filter.{Filter}
-use Rattle.loftsplice.specs.Filter.{Sifting}
+use Rattle.bounds.specs.declared.BoundaryType.{BoundaryType}
+use Rattle.bounds.specs.declared.BoundaryType.the-variants.{Inclusive, Exclusive}
+use Rattle.bounds.specs.declared.Limit.{Limit}
+use Rattle.bounds.specs.declared.Limit.the-variants.{Free, To}
+use Rattle.filter_interval.specs.declared.FilterState.{FilterState}
+use Rattle.filter_interval.specs.declared.FilterState.the-variants.{Before, Within, After}
+use Rattle.filter_interval.specs.declared.Filter.{Filter}
+use Rattle.filter_interval.specs.Filter.{Sifting}
 use Rattle.loftsplice_c.specs.declared.answer.FlatAnswer.{FlatAnswer}
 use Rattle.loftsplice_c.specs.declared.filter.FlatFilter.{FlatFilter}
 use Rattle.loftsplice_c.specs.declared.filter.FlatSifted.{FlatSifted}
 use Rattle.loftsplice_c.specs.Flat.{form}
 use Rattle.loftsplice_c.specs.Answer.{flatAnswer}
 use Rattle.loftsplice_c.specs.Scan.{isState}
-use Rattle.loftsplice_c.specs.Bounds.{kindNumber, boundaryOf, flatLimit, isLimit, limitOf}
+use Rattle.loftsplice_c.specs.Limits.{kindNumber, boundaryOf, flatLimit, isLimit, limitOf}
 use Rattle.loftsplice_c.specs.Filter.{filterStateNumber, keptIn, filterStateOf, filterOf, flatFilter, goodFilter, flatSifted, callFilter, formedFilter, askFilter}
 use Rattle.loftsplice_c.proofs.Scans.{scan-back, state-given}
 

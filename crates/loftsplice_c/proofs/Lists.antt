@@ -9,7 +9,7 @@ use lib.ListN.{length, drop, getD, set, length-append, drop-of-length-le}
 use lib.Seq.{drop-cons}
 use Rattle.ranges.specs.Ranges.{every}
 use Rattle.meaning.proofs.Paste.{push}
-use Rattle.loftsplice_c.specs.Bounds.{places}
+use Rattle.loftsplice_c.specs.Limits.{places}
 
 -- ---- a test of each, from the place i on
 

@@ -6,12 +6,12 @@ use lib.Dec.{eqb}
 use lib.ListN.{length}
 use lib.IntN.{ℤ}
 use Rattle.meaning.specs.Refusals.{Said, Gives, Number}
-use Rattle.loftsplice.specs.declared.filter_interval.Limit.{Limit}
-use Rattle.loftsplice.specs.declared.filter_interval.Limit.the-variants.{Free}
-use Rattle.loftsplice.specs.declared.filter_interval.FilterState.{FilterState}
-use Rattle.loftsplice.specs.declared.filter_interval.FilterState.the-variants.{Before, Within, After}
-use Rattle.loftsplice.specs.declared.filter_interval.Filter.{Filter}
-use Rattle.loftsplice.specs.Filter.{Move, Call, Sifting, refuseCall, fitOf, filterResetOf}
+use Rattle.bounds.specs.declared.Limit.{Limit}
+use Rattle.bounds.specs.declared.Limit.the-variants.{Free}
+use Rattle.filter_interval.specs.declared.FilterState.{FilterState}
+use Rattle.filter_interval.specs.declared.FilterState.the-variants.{Before, Within, After}
+use Rattle.filter_interval.specs.declared.Filter.{Filter}
+use Rattle.filter_interval.specs.Filter.{Move, Call, Sifting, refuseCall, fitOf, filterResetOf}
 use Rattle.loftsplice_c.specs.declared.scan.FlatScan.{FlatScan}
 use Rattle.loftsplice_c.specs.declared.filter.FlatFilter.{FlatFilter}
 use Rattle.loftsplice_c.specs.declared.filter.FlatNewFilter.{FlatNewFilter}
@@ -20,7 +20,7 @@ use Rattle.loftsplice_c.specs.declared.filter.FlatReset.{FlatReset}
 use Rattle.loftsplice_c.specs.Flat.{form, refusalIn, backOr}
 use Rattle.loftsplice_c.specs.Answer.{flatAnswer}
 use Rattle.loftsplice_c.specs.Scan.{flatScan, isState, scanOf, noState, noScan}
-use Rattle.loftsplice_c.specs.Bounds.{flatLimit, isLimit, limitOf, kinds, founds, boundsOf, variablesOf, inputsOf}
+use Rattle.loftsplice_c.specs.Limits.{flatLimit, isLimit, limitOf, kinds, founds, boundsOf, variablesOf, inputsOf}
 
 -- ---- a filter as numbers
 

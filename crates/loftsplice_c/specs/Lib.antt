@@ -2,6 +2,6 @@ pub mod Flat
 pub mod Answer
 pub mod Column
 pub mod Scan
-pub mod Bounds
+pub mod Limits
 pub mod Filter
 pub mod Listing

@@ -6,11 +6,11 @@ use lib.ListN.{length}
 use lib.IntN.{ℤ}
 use Rattle.meaning.specs.Refusals.{Said, Number}
 use Rattle.meaning.specs.Sequence.{Sequence, Source}
-use Rattle.loftsplice.specs.Filter.{bounds, greatest, least}
+use Rattle.bounds.specs.Bounds.{bounds, greatest, least}
 use Rattle.loftsplice.specs.Listing.{listOf, valuesOf, countsOf, windows}
 use Rattle.loftsplice_c.specs.declared.listing.FlatListed.{FlatListed}
 use Rattle.loftsplice_c.specs.Flat.{form, refusalIn, givenOr}
-use Rattle.loftsplice_c.specs.Bounds.{kinds, boundsOf}
+use Rattle.loftsplice_c.specs.Limits.{kinds, boundsOf}
 
 -- a refusal's number or 0, and the sum or 0
 abbrev pub flatListed : Said ℕ → FlatListed

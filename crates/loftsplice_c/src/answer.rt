@@ -3,7 +3,7 @@ ghost use mathlib.Core.Path.{_≡_};
 ghost use Rattle.loftsplice.specs.Scan.{saysAnswer};
 ghost use Rattle.loftsplice_c.specs.Answer.{flatAnswer};
 use loftsplice::refusal::number;
-use loftsplice::scan::Answer;
+use meaning::Answer;
 
 // A refusal's number or 0; 1 and the element, or 0 and 0.
 #[repr(C)]

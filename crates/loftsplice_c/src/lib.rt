@@ -2,8 +2,8 @@
 // struct of numbers, by value. Every function is total. `refusal` is 0, document 01's number, or 100 FORM: "a number that is no state or kind,
 // or two lists that belong together and differ in length", which is tried before all others.
 pub mod answer;
-pub mod bounds;
 pub mod column;
 pub mod filter;
+pub mod limits;
 pub mod listing;
 pub mod scan;

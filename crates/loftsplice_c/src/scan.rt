@@ -9,12 +9,12 @@ ghost use Rattle.loftsplice_c.specs.Scan.{isState, stateOf, scanOf, flat
 use crate::answer::FlatAnswer;
 use crate::answer::flat_answer;
 use loftsplice::refusal::number;
-use loftsplice::scan::Answer;
 use loftsplice::scan::Made;
 use loftsplice::scan::Moved;
 use loftsplice::scan::Position;
 use loftsplice::scan::Scan;
 use loftsplice::scan::State;
+use meaning::Answer;
 
 // A window, and a state: 0 fresh, 1 at an index, 2 ended. The index is read in state 1 only, and given as 0 in the others.
 #[repr(C)]

@@ -2,7 +2,7 @@
 use mathlib.Core.Path.{refl, ap, _∙_}
 use Rattle.meaning.specs.Refusals.{Number}
 use Prim.Native.Nat.{ℕ}
-use Rattle.loftsplice.specs.Filter.{saysFitted}
+use Rattle.filter_interval.specs.Filter.{saysFitted}
 use Rattle.loftsplice_c.specs.Filter.{flatNewFilter}
 use Rattle.loftsplice_c.proofs.Carried.{carried}
 use borrow.Author.Needs.{needs}

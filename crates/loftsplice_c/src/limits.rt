@@ -4,16 +4,16 @@ ghost use mathlib.Core.Bool.{_&&_};
 ghost use lib.IntN.{pos};
 ghost use lib.ListN.{getD};
 ghost use Rattle.ranges.specs.Ranges.{every};
-ghost use Rattle.loftsplice_c.specs.Bounds.{kindNumber, flatLimit, boundaryOf, limitOf, between, paired, kinds, boundsOf, variablesOf, inputAt, inputsOf};
-use loftsplice::filter_interval::Bound;
-use loftsplice::filter_interval::BoundaryType;
-use loftsplice::filter_interval::Bounds;
-use loftsplice::filter_interval::Input;
-use loftsplice::filter_interval::Inputs;
-use loftsplice::filter_interval::Limit;
-use loftsplice::filter_interval::Variable;
-use loftsplice::filter_interval::Variables;
-use loftsplice::scan::Answer;
+ghost use Rattle.loftsplice_c.specs.Limits.{kindNumber, flatLimit, boundaryOf, limitOf, between, paired, kinds, boundsOf, variablesOf, inputAt, inputsOf};
+use bounds::Bound;
+use bounds::BoundaryType;
+use bounds::Bounds;
+use bounds::Input;
+use bounds::Inputs;
+use bounds::Limit;
+use bounds::Variable;
+use bounds::Variables;
+use meaning::Answer;
 
 // A bound: kind 1 inclusive, 2 exclusive; or kind 0, no bound, and value 0.
 #[repr(C)]

@@ -1,12 +1,12 @@
--- `bounds::value_at` meets its contract. Assumes nothing.
+-- `limits::value_at` meets its contract. Assumes nothing.
 use mathlib.Core.Path.{sym}
 use lib.IntN.{pos}
 use lib.ListN.{List·getD-eq-default}
 use mir.Syntax.{w64}
 use Rattle.keys.proofs.Bits.{back}
 use borrow.Author.Needs.{needs}
-use Rattle.loftsplice_c.proofs.bounds.value_at.Statement.{statement}
-use Rattle.loftsplice_c.proofs.bounds.value_at.Tie as tie
+use Rattle.loftsplice_c.proofs.limits.value_at.Statement.{statement}
+use Rattle.loftsplice_c.proofs.limits.value_at.Tie as tie
 
 mul-result : tie.Need-mul-result
 mul-result c = search needs

@@ -1,14 +1,14 @@
--- `bounds::bounds_of` meets its contract. The loop's invariant: the places passed are filled. Assumes nothing.
+-- `limits::bounds_of` meets its contract. The loop's invariant: the places passed are filled. Assumes nothing.
 use Prim.Native.Nat.{_-_}
 use mathlib.Core.Path.{refl}
 use native.Mathlib.Omega.{arith}
 use mir.Syntax.{w64}
 use Rattle.keys.proofs.Bits.{back}
-use Rattle.loftsplice_c.specs.Bounds.{boundAt}
+use Rattle.loftsplice_c.specs.Limits.{boundAt}
 use Rattle.loftsplice_c.proofs.Lists.{Filling, filling-start, filling-more, filling-all}
 use borrow.Author.Needs.{needs}
-use Rattle.loftsplice_c.proofs.bounds.bounds_of.Statement.{statement}
-use Rattle.loftsplice_c.proofs.bounds.bounds_of.Tie as tie
+use Rattle.loftsplice_c.proofs.limits.bounds_of.Statement.{statement}
+use Rattle.loftsplice_c.proofs.limits.bounds_of.Tie as tie
 
 abbrev Inv-loop : tie.InvT-loop
 Inv-loop values kinds items₀ i₀ items i = Filling (boundAt values kinds) 16 items₀ items i

@@ -1,11 +1,11 @@
--- `bounds::input_at` meets its contract. Assumes nothing.
+-- `limits::input_at` meets its contract. Assumes nothing.
 use borrow.Author.Tests.{eq-eqb, ne-eqb}
 use lib.ListN.{List·getD-eq-default}
 use mir.Syntax.{w64}
 use Rattle.keys.proofs.Bits.{back}
 use borrow.Author.Needs.{needs}
-use Rattle.loftsplice_c.proofs.bounds.input_at.Statement.{statement}
-use Rattle.loftsplice_c.proofs.bounds.input_at.Tie as tie
+use Rattle.loftsplice_c.proofs.limits.input_at.Statement.{statement}
+use Rattle.loftsplice_c.proofs.limits.input_at.Tie as tie
 
 returns : tie.Need-returns
 returns c = rw (List·getD-eq-default (c .before .before .args .found .now) 0 {n = c .before .before .args .i} (c .if1 .taken))

@@ -1,27 +1,24 @@
--- `bounds::variables_of` meets its contract. The loop's invariant: the places passed are filled. Assumes nothing.
+-- `limits::inputs_of` meets its contract. The loop's invariant: the places passed are filled. Assumes nothing.
 use Prim.Native.Nat.{_-_}
 use mathlib.Core.Path.{refl}
 use native.Mathlib.Omega.{arith}
-use Rattle.loftsplice_c.specs.Bounds.{variableAt}
+use Rattle.loftsplice_c.specs.Limits.{inputAt}
 use Rattle.loftsplice_c.proofs.Lists.{Filling, filling-start, filling-more, filling-all}
 use borrow.Author.Needs.{needs}
-use Rattle.loftsplice_c.proofs.bounds.variables_of.Statement.{statement}
-use Rattle.loftsplice_c.proofs.bounds.variables_of.Tie as tie
+use Rattle.loftsplice_c.proofs.limits.inputs_of.Statement.{statement}
+use Rattle.loftsplice_c.proofs.limits.inputs_of.Tie as tie
 
 abbrev Inv-loop : tie.InvT-loop
-Inv-loop inputs kinds items₀ i₀ items i = Filling (variableAt inputs kinds) 16 items₀ items i
+Inv-loop values found items₀ i₀ items i = Filling (inputAt values found) 8 items₀ items i
 
 abbrev μ-loop : tie.MeasureT-loop
-μ-loop inputs kinds items₀ i₀ items i = 16 - i
+μ-loop values found items₀ i₀ items i = 8 - i
 
 loop-holds : tie.Need-loop-holds Inv-loop μ-loop
 loop-holds c = filling-start _ _ _ refl
 
-boundary-at-requires : tie.Need-boundary-at-requires Inv-loop μ-loop
-boundary-at-requires c κs = search needs
-
-named-at-requires : tie.Need-named-at-requires Inv-loop μ-loop
-named-at-requires c κs = search needs
+input-at-requires : tie.Need-input-at-requires Inv-loop μ-loop
+input-at-requires c κs = search needs
 
 mul-items : tie.Need-mul-items Inv-loop μ-loop
 mul-items c = search needs
@@ -37,21 +34,20 @@ loop-less c = search needs
 
 loop-again : tie.Need-loop-again Inv-loop μ-loop
 loop-again c =
-    let at = c .before .before .before .loop in
-    filling-more _ _ _ (at .items) (at .i) _ (at .inv) (c .before .before .loop-test .taken) (rw (c .named-at .ensures, c .before .boundary-at .ensures))
+    let at = c .before .before .loop in
+    filling-more _ _ _ (at .items) (at .i) _ (at .inv) (c .before .loop-test .taken) (c .input-at .ensures)
 
 returns : tie.Need-returns Inv-loop μ-loop
 returns c = rw (filling-all _ _ _ (c .before .loop .items) (c .before .loop .i) (c .before .loop .inv) (omega arith))
 
-pub variables-of-spec : {M : Type 1} → statement M
-variables-of-spec =
+pub inputs-of-spec : {M : Type 1} → statement M
+inputs-of-spec =
     tie.close
     (tie.spec
     Inv-loop
     μ-loop
     loop-holds
-    boundary-at-requires
-    named-at-requires
+    input-at-requires
     mul-items
     array-set-from-items
     add-i

@@ -6,19 +6,19 @@ use lib.Dec.{leb, eqb}
 use lib.ListN.{length, getD}
 use lib.IntN.{ℤ, pos}
 use Rattle.ranges.specs.Ranges.{every}
-use Rattle.loftsplice.specs.declared.scan.Answer.{Answer}
-use Rattle.loftsplice.specs.declared.scan.Answer.the-variants.{Value, None}
-use Rattle.loftsplice.specs.declared.filter_interval.BoundaryType.{BoundaryType}
-use Rattle.loftsplice.specs.declared.filter_interval.BoundaryType.the-variants.{Inclusive, Exclusive}
-use Rattle.loftsplice.specs.declared.filter_interval.Bound.{Bound}
-use Rattle.loftsplice.specs.declared.filter_interval.Variable.{Variable}
-use Rattle.loftsplice.specs.declared.filter_interval.Limit.{Limit}
-use Rattle.loftsplice.specs.declared.filter_interval.Limit.the-variants.{Free, To}
-use Rattle.loftsplice.specs.declared.filter_interval.Bounds.{Bounds}
-use Rattle.loftsplice.specs.declared.filter_interval.Variables.{Variables}
-use Rattle.loftsplice.specs.declared.filter_interval.Input.{Input}
-use Rattle.loftsplice.specs.declared.filter_interval.Inputs.{Inputs}
-use Rattle.loftsplice_c.specs.declared.bounds.FlatLimit.{FlatLimit}
+use Rattle.meaning.specs.declared.Answer.{Answer}
+use Rattle.meaning.specs.declared.Answer.the-variants.{Value, None}
+use Rattle.bounds.specs.declared.BoundaryType.{BoundaryType}
+use Rattle.bounds.specs.declared.BoundaryType.the-variants.{Inclusive, Exclusive}
+use Rattle.bounds.specs.declared.Bound.{Bound}
+use Rattle.bounds.specs.declared.Variable.{Variable}
+use Rattle.bounds.specs.declared.Limit.{Limit}
+use Rattle.bounds.specs.declared.Limit.the-variants.{Free, To}
+use Rattle.bounds.specs.declared.Bounds.{Bounds}
+use Rattle.bounds.specs.declared.Variables.{Variables}
+use Rattle.bounds.specs.declared.Input.{Input}
+use Rattle.bounds.specs.declared.Inputs.{Inputs}
+use Rattle.loftsplice_c.specs.declared.limits.FlatLimit.{FlatLimit}
 
 -- ---- one bound
 

@@ -1,9 +1,9 @@
--- `bounds::is_paired` meets its contract. Assumes nothing.
+-- `limits::is_paired` meets its contract. Assumes nothing.
 use borrow.Author.Tests.{eq-eqb, ne-eqb}
-use Rattle.loftsplice_c.specs.Bounds.{paired}
+use Rattle.loftsplice_c.specs.Limits.{paired}
 use borrow.Author.Needs.{needs}
-use Rattle.loftsplice_c.proofs.bounds.is_paired.Statement.{statement}
-use Rattle.loftsplice_c.proofs.bounds.is_paired.Tie as tie
+use Rattle.loftsplice_c.proofs.limits.is_paired.Statement.{statement}
+use Rattle.loftsplice_c.proofs.limits.is_paired.Tie as tie
 
 all-between-requires : tie.Need-all-between-requires
 all-between-requires c κs = search needs

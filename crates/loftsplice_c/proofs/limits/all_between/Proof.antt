@@ -1,4 +1,4 @@
--- `bounds::all_between` meets its contract. The loop's invariant: what is left to test decides. Assumes nothing.
+-- `limits::all_between` meets its contract. The loop's invariant: what is left to test decides. Assumes nothing.
 use Prim.Native.Nat.{_-_, _≤_}
 use mathlib.Core.Path.{_≡_, refl, sym, _∙_}
 use native.Mathlib.Omega.{arith}
@@ -6,11 +6,11 @@ use native.Mathlib.Numerals.{add-one}
 use lib.ListN.{length, drop}
 use borrow.Author.Tests.{le-leb, lt-leb}
 use Rattle.ranges.specs.Ranges.{every}
-use Rattle.loftsplice_c.specs.Bounds.{between}
+use Rattle.loftsplice_c.specs.Limits.{between}
 use Rattle.loftsplice_c.proofs.Lists.{every-here, every-not, every-end}
 use borrow.Author.Needs.{needs}
-use Rattle.loftsplice_c.proofs.bounds.all_between.Statement.{statement}
-use Rattle.loftsplice_c.proofs.bounds.all_between.Tie as tie
+use Rattle.loftsplice_c.proofs.limits.all_between.Statement.{statement}
+use Rattle.loftsplice_c.proofs.limits.all_between.Tie as tie
 
 abbrev Inv-loop : tie.InvT-loop
 Inv-loop low high numbers i₀ i = (i ≤ length numbers) × (every (between low high) (drop i numbers) ≡ every (between low high) numbers)

@@ -1,9 +1,9 @@
--- `bounds::named_at` meets its contract. Assumes nothing.
+-- `limits::named_at` meets its contract. Assumes nothing.
 use mathlib.Core.Path.{sym}
 use lib.ListN.{List·getD-eq-default}
 use borrow.Author.Needs.{needs}
-use Rattle.loftsplice_c.proofs.bounds.named_at.Statement.{statement}
-use Rattle.loftsplice_c.proofs.bounds.named_at.Tie as tie
+use Rattle.loftsplice_c.proofs.limits.named_at.Statement.{statement}
+use Rattle.loftsplice_c.proofs.limits.named_at.Tie as tie
 
 mul-result : tie.Need-mul-result
 mul-result c = search needs

@@ -1,10 +1,10 @@
--- `bounds::limit_of` meets its contract. Assumes nothing.
+-- `limits::limit_of` meets its contract. Assumes nothing.
 use borrow.Author.Tests.{eq-eqb, ne-eqb}
 use mir.Syntax.{w64}
 use Rattle.keys.proofs.Bits.{back}
 use borrow.Author.Needs.{needs}
-use Rattle.loftsplice_c.proofs.bounds.limit_of.Statement.{statement}
-use Rattle.loftsplice_c.proofs.bounds.limit_of.Tie as tie
+use Rattle.loftsplice_c.proofs.limits.limit_of.Statement.{statement}
+use Rattle.loftsplice_c.proofs.limits.limit_of.Tie as tie
 
 returns : tie.Need-returns
 returns c = rw (eq-eqb _ _ (c .if1 .taken))

@@ -1,8 +1,8 @@
--- `bounds::boundary_of` meets its contract. Assumes nothing.
+-- `limits::boundary_of` meets its contract. Assumes nothing.
 use borrow.Author.Tests.{eq-eqb, ne-eqb}
 use borrow.Author.Needs.{needs}
-use Rattle.loftsplice_c.proofs.bounds.boundary_of.Statement.{statement}
-use Rattle.loftsplice_c.proofs.bounds.boundary_of.Tie as tie
+use Rattle.loftsplice_c.proofs.limits.boundary_of.Statement.{statement}
+use Rattle.loftsplice_c.proofs.limits.boundary_of.Tie as tie
 
 returns : tie.Need-returns
 returns c = rw (eq-eqb _ _ (c .if1 .taken))

@@ -1,8 +1,8 @@
--- `bounds::are_bounds` meets its contract. Assumes nothing.
+-- `limits::are_bounds` meets its contract. Assumes nothing.
 use mathlib.Core.Path.{sym, _∙_}
 use borrow.Author.Needs.{needs}
-use Rattle.loftsplice_c.proofs.bounds.are_bounds.Statement.{statement}
-use Rattle.loftsplice_c.proofs.bounds.are_bounds.Tie as tie
+use Rattle.loftsplice_c.proofs.limits.are_bounds.Statement.{statement}
+use Rattle.loftsplice_c.proofs.limits.are_bounds.Tie as tie
 
 is-paired-requires : tie.Need-is-paired-requires
 is-paired-requires c κs = search needs

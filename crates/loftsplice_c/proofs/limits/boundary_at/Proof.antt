@@ -1,9 +1,9 @@
--- `bounds::boundary_at` meets its contract. Assumes nothing.
+-- `limits::boundary_at` meets its contract. Assumes nothing.
 use native.Mathlib.Omega.{arith}
 use lib.ListN.{List·getD-eq-default}
 use borrow.Author.Needs.{needs}
-use Rattle.loftsplice_c.proofs.bounds.boundary_at.Statement.{statement}
-use Rattle.loftsplice_c.proofs.bounds.boundary_at.Tie as tie
+use Rattle.loftsplice_c.proofs.limits.boundary_at.Statement.{statement}
+use Rattle.loftsplice_c.proofs.limits.boundary_at.Tie as tie
 
 shared-slice-read-boundary-of : tie.Need-shared-slice-read-boundary-of
 shared-slice-read-boundary-of c = search needs

@@ -1,9 +1,9 @@
--- `bounds::flat_limit` meets its contract. Assumes nothing.
+-- `limits::flat_limit` meets its contract. Assumes nothing.
 use mir.Syntax.{w64}
 use Rattle.keys.proofs.Bits.{back}
 use borrow.Author.Needs.{needs}
-use Rattle.loftsplice_c.proofs.bounds.flat_limit.Statement.{statement}
-use Rattle.loftsplice_c.proofs.bounds.flat_limit.Tie as tie
+use Rattle.loftsplice_c.proofs.limits.flat_limit.Statement.{statement}
+use Rattle.loftsplice_c.proofs.limits.flat_limit.Tie as tie
 
 enum-told : tie.Need-enum-told
 enum-told c = search needs
