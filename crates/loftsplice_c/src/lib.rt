@@ -4,6 +4,7 @@
 pub mod answer;
 pub mod column;
 pub mod filter;
+pub mod filter_calls;
 pub mod limits;
 pub mod listing;
 pub mod scan;

@@ -3,8 +3,8 @@ use mathlib.Core.Path.{sym, _∙_}
 use Rattle.loftsplice_c.specs.Filter.{goodLists}
 use Rattle.loftsplice_c.proofs.Filters.{called, not-called}
 use borrow.Author.Needs.{needs}
-use Rattle.loftsplice_c.proofs.filter.loftsplice_filter_next.Statement.{statement}
-use Rattle.loftsplice_c.proofs.filter.loftsplice_filter_next.Tie as tie
+use Rattle.loftsplice_c.proofs.filter_calls.loftsplice_filter_next.Statement.{statement}
+use Rattle.loftsplice_c.proofs.filter_calls.loftsplice_filter_next.Tie as tie
 
 is-call-requires : tie.Need-is-call-requires
 is-call-requires c κs = search needs

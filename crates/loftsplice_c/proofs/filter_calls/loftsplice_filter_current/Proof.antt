@@ -3,8 +3,8 @@ use mathlib.Core.Path.{sym, ap, _∙_}
 use Rattle.loftsplice_c.specs.Answer.{flatAnswer}
 use Rattle.loftsplice_c.proofs.Filters.{asked, not-asked}
 use borrow.Author.Needs.{needs}
-use Rattle.loftsplice_c.proofs.filter.loftsplice_filter_current.Statement.{statement}
-use Rattle.loftsplice_c.proofs.filter.loftsplice_filter_current.Tie as tie
+use Rattle.loftsplice_c.proofs.filter_calls.loftsplice_filter_current.Statement.{statement}
+use Rattle.loftsplice_c.proofs.filter_calls.loftsplice_filter_current.Tie as tie
 
 is-filter-requires : tie.Need-is-filter-requires
 is-filter-requires c κs = search needs

@@ -2,8 +2,8 @@
 use mathlib.Core.Path.{sym, _∙_}
 use Rattle.loftsplice_c.specs.Filter.{flatReset}
 use borrow.Author.Needs.{needs}
-use Rattle.loftsplice_c.proofs.filter.loftsplice_filter_reset.Statement.{statement}
-use Rattle.loftsplice_c.proofs.filter.loftsplice_filter_reset.Tie as tie
+use Rattle.loftsplice_c.proofs.filter_calls.loftsplice_filter_reset.Statement.{statement}
+use Rattle.loftsplice_c.proofs.filter_calls.loftsplice_filter_reset.Tie as tie
 
 is-filter-requires : tie.Need-is-filter-requires
 is-filter-requires c κs = search needs

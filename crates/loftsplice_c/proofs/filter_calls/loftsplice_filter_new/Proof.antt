@@ -2,8 +2,8 @@
 use mathlib.Core.Path.{sym, ap, _∙_}
 use Rattle.loftsplice_c.specs.Filter.{flatNewFilter, askFit}
 use borrow.Author.Needs.{needs}
-use Rattle.loftsplice_c.proofs.filter.loftsplice_filter_new.Statement.{statement}
-use Rattle.loftsplice_c.proofs.filter.loftsplice_filter_new.Tie as tie
+use Rattle.loftsplice_c.proofs.filter_calls.loftsplice_filter_new.Statement.{statement}
+use Rattle.loftsplice_c.proofs.filter_calls.loftsplice_filter_new.Tie as tie
 
 is-fit-requires : tie.Need-is-fit-requires
 is-fit-requires c κs = search needs

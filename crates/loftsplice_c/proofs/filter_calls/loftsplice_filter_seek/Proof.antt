@@ -4,8 +4,8 @@ use mir.Facts.{toZ-ofZ}
 use Rattle.loftsplice_c.specs.Filter.{goodLists}
 use Rattle.loftsplice_c.proofs.Filters.{called, not-called}
 use borrow.Author.Needs.{needs}
-use Rattle.loftsplice_c.proofs.filter.loftsplice_filter_seek.Statement.{statement}
-use Rattle.loftsplice_c.proofs.filter.loftsplice_filter_seek.Tie as tie
+use Rattle.loftsplice_c.proofs.filter_calls.loftsplice_filter_seek.Statement.{statement}
+use Rattle.loftsplice_c.proofs.filter_calls.loftsplice_filter_seek.Tie as tie
 
 is-call-requires : tie.Need-is-call-requires
 is-call-requires c κs = search needs
