@@ -86,11 +86,11 @@ typedef struct loftsplice_emptiness {
 } loftsplice_emptiness;
 
 /* The run that an index lies in, from 0, and its offset there. */
-typedef struct loftsplice_place_of {
+typedef struct loftsplice_placed {
     uint32_t refusal;
     uint64_t run;
     uint64_t offset;
-} loftsplice_place_of;
+} loftsplice_placed;
 
 /* found 1 and the step, or found 0: there is none. */
 typedef struct loftsplice_difference {
@@ -161,7 +161,7 @@ loftsplice_emptiness loftsplice_is_empty(const int64_t *starts, size_t starts_le
     size_t steps_len);
 
 /* The run and offset of an index, (run count, 0) for the length; or refused 1, 2, 3, 4. */
-loftsplice_place_of loftsplice_place(const int64_t *starts, size_t starts_len, const uint64_t *ends, size_t ends_len, const int16_t *steps,
+loftsplice_placed loftsplice_place(const int64_t *starts, size_t starts_len, const uint64_t *ends, size_t ends_len, const int16_t *steps,
     size_t steps_len, uint64_t index);
 
 /* The element at an index, found 1; or refused 1, 2, 3, 4. */

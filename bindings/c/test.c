@@ -176,7 +176,7 @@ static void columns(void) {
     SAME(e.refusal, LOFTSPLICE_ENDS), SAME(e.empty, 0);
 
     /* P2 */
-    loftsplice_place_of p = loftsplice_place(LISTS(C), 4);
+    loftsplice_placed p = loftsplice_place(LISTS(C), 4);
     SAME(p.refusal, 0), SAME(p.run, 1), SAME(p.offset, 0);
     p = loftsplice_place(LISTS(C), 8);
     SAME(p.refusal, 0), SAME(p.run, 3), SAME(p.offset, 2);
