@@ -1,0 +1,498 @@
+/* Calls every function of loftsplice.h, with good and bad input, and compares every number of every answer.
+ * P1 to P12 are the examples of document 01. The last line says how many comparisons were made; the exit status is 1 if one failed. */
+#include "loftsplice.h"
+
+#include <inttypes.h>
+#include <stdio.h>
+#include <stdlib.h>
+#include <string.h>
+
+static unsigned long made, failed;
+
+static void same_at(const char *what, int line, int64_t got, int64_t wanted) {
+    made++;
+    if (got != wanted) {
+        failed++;
+        fprintf(stderr, "test.c:%d: %s is %" PRId64 ", not %" PRId64 "\n", line, what, got, wanted);
+    }
+}
+#define SAME(got, wanted) same_at(#got, __LINE__, (int64_t)(got), (int64_t)(wanted))
+
+/* A column, as three lists. */
+typedef struct column {
+    const int64_t *starts;
+    size_t starts_len;
+    const uint64_t *ends;
+    size_t ends_len;
+    const int16_t *steps;
+    size_t steps_len;
+} column;
+#define LISTS(c) (c).starts, (c).starts_len, (c).ends, (c).ends_len, (c).steps, (c).steps_len
+#define COLUMN(starts, ends, steps) {starts, sizeof starts / sizeof *starts, ends, sizeof ends / sizeof *ends, steps, sizeof steps / sizeof *steps}
+
+/* Document 01's columns C and D, and bad ones. */
+static const int64_t c_starts[] = {10, 30, 31, 40};
+static const uint64_t c_ends[] = {4, 5, 6, 9};
+static const int16_t c_steps[] = {5, 0, -3, 100};
+static const column C = COLUMN(c_starts, c_ends, c_steps);
+
+static const int64_t d_starts[] = {10, 6};
+static const uint64_t d_ends[] = {2, 5};
+static const int16_t d_steps[] = {-5, 1};
+static const column D = COLUMN(d_starts, d_ends, d_steps);
+
+static const column none = {NULL, 0, NULL, 0, NULL, 0};
+static const column uneven = {c_starts, 4, c_ends, 3, c_steps, 4};
+
+static const uint64_t flat_ends[] = {4, 5, 5, 9};
+static const column standing = COLUMN(c_starts, flat_ends, c_steps);
+
+static const int64_t edge_starts[] = {INT64_C(9223372036854775800)};
+static const uint64_t edge_8[] = {8}, edge_9[] = {9};
+static const int16_t edge_steps[] = {1};
+static const column edge = COLUMN(edge_starts, edge_8, edge_steps);
+static const column past_edge = COLUMN(edge_starts, edge_9, edge_steps);
+
+static void same_scan_at(int line, loftsplice_scan got, uint64_t start, uint64_t end, uint64_t index, uint32_t state) {
+    same_at("scan.start", line, (int64_t)got.start, (int64_t)start);
+    same_at("scan.end", line, (int64_t)got.end, (int64_t)end);
+    same_at("scan.index", line, (int64_t)got.index, (int64_t)index);
+    same_at("scan.state", line, got.state, state);
+}
+#define SCAN(got, start, end, index, state) same_scan_at(__LINE__, got, start, end, index, state)
+
+static void same_answer_at(int line, loftsplice_answer got, uint32_t refusal, uint32_t found, int64_t value) {
+    same_at("answer.refusal", line, got.refusal, refusal);
+    same_at("answer.found", line, got.found, found);
+    same_at("answer.value", line, got.value, value);
+}
+#define VALUE(got, value) same_answer_at(__LINE__, got, 0, 1, value)
+#define NONE(got) same_answer_at(__LINE__, got, 0, 0, 0)
+#define REFUSED(got, refusal) same_answer_at(__LINE__, got, refusal, 0, 0)
+
+static void same_limit_at(int line, loftsplice_limit got, uint32_t kind, int64_t value) {
+    same_at("limit.kind", line, got.kind, kind);
+    same_at("limit.value", line, got.value, value);
+}
+#define LIMIT(got, kind, value) same_limit_at(__LINE__, got, kind, value)
+
+/* Two filters, number by number. */
+static void same_filter_at(int line, loftsplice_filter got, loftsplice_filter wanted) {
+    same_scan_at(line, got.scan, wanted.scan.start, wanted.scan.end, wanted.scan.index, wanted.scan.state);
+    same_limit_at(line, got.lower, wanted.lower.kind, wanted.lower.value);
+    same_limit_at(line, got.upper, wanted.upper.kind, wanted.upper.value);
+    same_limit_at(line, got.kept, wanted.kept.kind, wanted.kept.value);
+    same_at("filter.state", line, got.state, wanted.state);
+}
+#define FILTER(got, wanted) same_filter_at(__LINE__, got, wanted)
+
+/* Each call on a scan, all with the same refusal, and the scan as it went in. */
+static void scan_refused_at(int line, column c, loftsplice_scan s, uint32_t refusal) {
+    loftsplice_moved moved[] = {
+        loftsplice_scan_next(s, LISTS(c)), loftsplice_scan_seek(s, LISTS(c), 7), loftsplice_scan_narrow(s, LISTS(c), 0, 1),
+        loftsplice_scan_reset(s, LISTS(c))};
+    for (size_t i = 0; i < sizeof moved / sizeof *moved; i++) {
+        same_answer_at(line, moved[i].answer, refusal, 0, 0);
+        same_scan_at(line, moved[i].scan, s.start, s.end, s.index, s.state);
+    }
+    same_answer_at(line, loftsplice_scan_current(s, LISTS(c)), refusal, 0, 0);
+    loftsplice_position p = loftsplice_scan_pos(s, LISTS(c));
+    same_at("position.refusal", line, p.refusal, refusal);
+    same_at("position.found", line, p.found, 0);
+    same_at("position.index", line, (int64_t)p.index, 0);
+}
+#define SCAN_REFUSED(c, s, refusal) scan_refused_at(__LINE__, c, s, refusal)
+
+/* Lists of variable bounds and inputs. */
+typedef struct lists {
+    const uint64_t *lower;
+    size_t lower_len;
+    const uint8_t *lower_kinds;
+    size_t lower_kinds_len;
+    const uint64_t *upper;
+    size_t upper_len;
+    const uint8_t *upper_kinds;
+    size_t upper_kinds_len;
+    const int64_t *values;
+    size_t values_len;
+    const uint8_t *found;
+    size_t found_len;
+} lists;
+#define VARIABLES(l)                                                                                                                            \
+    (l).lower, (l).lower_len, (l).lower_kinds, (l).lower_kinds_len, (l).upper, (l).upper_len, (l).upper_kinds, (l).upper_kinds_len, (l).values,     \
+        (l).values_len, (l).found, (l).found_len
+static const lists no_lists;
+
+static loftsplice_sifted next_of(loftsplice_filter f, column c, lists l) { return loftsplice_filter_next(f, LISTS(c), VARIABLES(l)); }
+static loftsplice_sifted seek_of(loftsplice_filter f, column c, int64_t target, lists l) {
+    return loftsplice_filter_seek(f, LISTS(c), target, VARIABLES(l));
+}
+
+/* next and seek, both with the same refusal, and the filter as it went in. */
+static void call_refused_at(int line, column c, loftsplice_filter f, lists l, uint32_t refusal) {
+    loftsplice_sifted sifted[] = {next_of(f, c, l), seek_of(f, c, 7, l)};
+    for (size_t i = 0; i < 2; i++) {
+        same_answer_at(line, sifted[i].answer, refusal, 0, 0);
+        same_filter_at(line, sifted[i].filter, f);
+    }
+}
+#define CALL_REFUSED(c, f, l, refusal) call_refused_at(__LINE__, c, f, l, refusal)
+
+static loftsplice_scan fresh(column c) {
+    loftsplice_new_scan made_scan = loftsplice_scan_new(LISTS(c));
+    SAME(made_scan.refusal, 0);
+    return made_scan.scan;
+}
+
+static loftsplice_filter fitted(loftsplice_scan s, const int64_t *lows, const uint8_t *low_kinds, size_t low_len, const int64_t *ups,
+    const uint8_t *up_kinds, size_t up_len) {
+    loftsplice_new_filter made_filter = loftsplice_filter_new(s, lows, low_len, low_kinds, low_len, ups, up_len, up_kinds, up_len);
+    SAME(made_filter.refusal, 0);
+    return made_filter.filter;
+}
+
+static void columns(void) {
+    SAME(loftsplice_check(LISTS(C)), 0);
+    SAME(loftsplice_check(LISTS(D)), 0);
+    SAME(loftsplice_check(LISTS(none)), 0);
+    SAME(loftsplice_check(LISTS(uneven)), LOFTSPLICE_SHAPE);
+    SAME(loftsplice_check(LISTS(standing)), LOFTSPLICE_ENDS);
+    /* P12 */
+    SAME(loftsplice_check(LISTS(edge)), 0);
+    SAME(loftsplice_check(LISTS(past_edge)), LOFTSPLICE_REACH);
+
+    loftsplice_length l = loftsplice_len(LISTS(C));
+    SAME(l.refusal, 0), SAME(l.length, 9);
+    l = loftsplice_len(LISTS(none));
+    SAME(l.refusal, 0), SAME(l.length, 0);
+    l = loftsplice_len(LISTS(past_edge));
+    SAME(l.refusal, LOFTSPLICE_REACH), SAME(l.length, 0);
+
+    loftsplice_emptiness e = loftsplice_is_empty(LISTS(C));
+    SAME(e.refusal, 0), SAME(e.empty, 0);
+    e = loftsplice_is_empty(LISTS(none));
+    SAME(e.refusal, 0), SAME(e.empty, 1);
+    e = loftsplice_is_empty(LISTS(standing));
+    SAME(e.refusal, LOFTSPLICE_ENDS), SAME(e.empty, 0);
+
+    /* P2 */
+    loftsplice_placed p = loftsplice_place(LISTS(C), 4);
+    SAME(p.refusal, 0), SAME(p.run, 1), SAME(p.offset, 0);
+    p = loftsplice_place(LISTS(C), 8);
+    SAME(p.refusal, 0), SAME(p.run, 3), SAME(p.offset, 2);
+    p = loftsplice_place(LISTS(C), 9);
+    SAME(p.refusal, 0), SAME(p.run, 4), SAME(p.offset, 0);
+    p = loftsplice_place(LISTS(C), 10);
+    SAME(p.refusal, LOFTSPLICE_INDEX), SAME(p.run, 0), SAME(p.offset, 0);
+    p = loftsplice_place(LISTS(uneven), 10);
+    SAME(p.refusal, LOFTSPLICE_SHAPE), SAME(p.run, 0), SAME(p.offset, 0);
+
+    /* P1 */
+    VALUE(loftsplice_get(LISTS(C), 3), 25);
+    VALUE(loftsplice_get(LISTS(C), 8), 240);
+    REFUSED(loftsplice_get(LISTS(C), 9), LOFTSPLICE_INDEX);
+    REFUSED(loftsplice_get(LISTS(C), UINT64_MAX), LOFTSPLICE_INDEX);
+    VALUE(loftsplice_get(LISTS(edge), 7), INT64_MAX);
+    VALUE(loftsplice_get(LISTS(D), 1), 5);
+    REFUSED(loftsplice_get(LISTS(past_edge), 0), LOFTSPLICE_REACH);
+
+    loftsplice_difference d = loftsplice_diff_step(0, 32767);
+    SAME(d.found, 1), SAME(d.step, 32767);
+    d = loftsplice_diff_step(0, 32768);
+    SAME(d.found, 0), SAME(d.step, 0);
+    d = loftsplice_diff_step(0, -32768);
+    SAME(d.found, 1), SAME(d.step, -32768);
+    d = loftsplice_diff_step(0, -32769);
+    SAME(d.found, 0), SAME(d.step, 0);
+    d = loftsplice_diff_step(INT64_MIN, INT64_MAX);
+    SAME(d.found, 0), SAME(d.step, 0);
+
+    /* 4,096 runs pass, 4,097 are refused 1 */
+    static int64_t starts[4097];
+    static uint64_t ends[4097];
+    static int16_t steps[4097];
+    for (size_t i = 0; i < 4097; i++) starts[i] = (int64_t)i, ends[i] = i + 1;
+    SAME(loftsplice_check(starts, 4096, ends, 4096, steps, 4096), 0);
+    SAME(loftsplice_check(starts, 4097, ends, 4097, steps, 4097), LOFTSPLICE_SHAPE);
+}
+
+static void scans(void) {
+    loftsplice_scan s = fresh(C);
+    SCAN(s, 0, 9, 0, LOFTSPLICE_FRESH);
+    NONE(loftsplice_scan_current(s, LISTS(C)));
+
+    /* P3 */
+    loftsplice_moved m = loftsplice_scan_seek(s, LISTS(C), 16);
+    VALUE(m.answer, 20), SCAN(m.scan, 0, 9, 2, LOFTSPLICE_AT);
+    VALUE(loftsplice_scan_current(m.scan, LISTS(C)), 20);
+    loftsplice_position p = loftsplice_scan_pos(m.scan, LISTS(C));
+    SAME(p.refusal, 0), SAME(p.found, 1), SAME(p.index, 2);
+    p = loftsplice_scan_pos(s, LISTS(C));
+    SAME(p.refusal, 0), SAME(p.found, 0), SAME(p.index, 0);
+    /* P4 */
+    m = loftsplice_scan_seek(s, LISTS(C), 26);
+    VALUE(m.answer, 30), SCAN(m.scan, 0, 9, 4, LOFTSPLICE_AT);
+    /* P5 */
+    m = loftsplice_scan_seek(s, LISTS(C), 241);
+    NONE(m.answer), SCAN(m.scan, 0, 9, 0, LOFTSPLICE_ENDED);
+    m = loftsplice_scan_next(m.scan, LISTS(C));
+    NONE(m.answer), SCAN(m.scan, 0, 9, 0, LOFTSPLICE_ENDED);
+    m = loftsplice_scan_reset(m.scan, LISTS(C));
+    NONE(m.answer), SCAN(m.scan, 0, 9, 0, LOFTSPLICE_FRESH);
+    /* P6 */
+    loftsplice_scan at_5 = {0, 9, 5, LOFTSPLICE_AT};
+    m = loftsplice_scan_seek(at_5, LISTS(C), 12);
+    VALUE(m.answer, 31), SCAN(m.scan, 0, 9, 5, LOFTSPLICE_AT);
+    /* P7 */
+    m = loftsplice_scan_narrow(s, LISTS(C), 3, 8);
+    NONE(m.answer), SCAN(m.scan, 3, 8, 0, LOFTSPLICE_FRESH);
+    m = loftsplice_scan_next(m.scan, LISTS(C));
+    VALUE(m.answer, 25), SCAN(m.scan, 3, 8, 3, LOFTSPLICE_AT);
+    m = loftsplice_scan_seek(m.scan, LISTS(C), 200);
+    NONE(m.answer), SCAN(m.scan, 3, 8, 0, LOFTSPLICE_ENDED);
+    /* P8 */
+    m = loftsplice_scan_next(loftsplice_scan_narrow(s, LISTS(C), 3, 3).scan, LISTS(C));
+    NONE(m.answer), SCAN(m.scan, 3, 3, 0, LOFTSPLICE_ENDED);
+    m = loftsplice_scan_next(loftsplice_scan_narrow(s, LISTS(C), 8, 2).scan, LISTS(C));
+    NONE(m.answer), SCAN(m.scan, 8, 2, 0, LOFTSPLICE_ENDED);
+    m = loftsplice_scan_narrow(at_5, LISTS(C), 0, 10);
+    REFUSED(m.answer, LOFTSPLICE_WINDOW), SCAN(m.scan, 0, 9, 5, LOFTSPLICE_AT);
+    /* P9 */
+    m = loftsplice_scan_seek(fresh(D), LISTS(D), 6);
+    REFUSED(m.answer, LOFTSPLICE_ORDER), SCAN(m.scan, 0, 5, 0, LOFTSPLICE_FRESH);
+    m = loftsplice_scan_seek(loftsplice_scan_narrow(fresh(D), LISTS(D), 1, 5).scan, LISTS(D), 6);
+    VALUE(m.answer, 6), SCAN(m.scan, 1, 5, 2, LOFTSPLICE_AT);
+
+    /* all elements, by next alone */
+    static const int64_t elements[] = {10, 15, 20, 25, 30, 31, 40, 140, 240};
+    for (size_t i = 0; i < 9; i++) {
+        m = loftsplice_scan_next(s, LISTS(C));
+        VALUE(m.answer, elements[i]);
+        s = m.scan;
+    }
+    NONE(loftsplice_scan_next(s, LISTS(C)).answer);
+
+    /* bad columns and scans; an index that is not read comes back too */
+    loftsplice_scan ended = {0, 9, 77, LOFTSPLICE_ENDED}, odd = {0, 9, 77, 3}, far = {4, 5, 6, 256};
+    SCAN_REFUSED(uneven, ended, LOFTSPLICE_SHAPE);
+    SCAN_REFUSED(standing, ended, LOFTSPLICE_ENDS);
+    SCAN_REFUSED(past_edge, ended, LOFTSPLICE_REACH);
+    loftsplice_scan long_one = {0, 10, 0, LOFTSPLICE_FRESH}, outside = {2, 9, 1, LOFTSPLICE_AT}, at_end = {0, 9, 9, LOFTSPLICE_AT};
+    SCAN_REFUSED(C, long_one, LOFTSPLICE_SCAN);
+    SCAN_REFUSED(C, outside, LOFTSPLICE_SCAN);
+    SCAN_REFUSED(C, at_end, LOFTSPLICE_SCAN);
+    m = loftsplice_scan_next(ended, LISTS(C));
+    NONE(m.answer), SCAN(m.scan, 0, 9, 0, LOFTSPLICE_ENDED);
+
+    /* no state: 100, also before 1; never taken for ended */
+    SCAN_REFUSED(C, odd, LOFTSPLICE_FORM);
+    SCAN_REFUSED(C, far, LOFTSPLICE_FORM);
+    SCAN_REFUSED(uneven, odd, LOFTSPLICE_FORM);
+    for (uint32_t state = 3; state < 260; state++) {
+        loftsplice_scan bad = {0, 9, 0, state};
+        SCAN_REFUSED(C, bad, LOFTSPLICE_FORM);
+    }
+
+    /* a scan that could not be made can't be used */
+    loftsplice_new_scan refused = loftsplice_scan_new(LISTS(uneven));
+    SAME(refused.refusal, LOFTSPLICE_SHAPE);
+    SCAN(refused.scan, 0, 0, 0, LOFTSPLICE_NO_STATE);
+    SCAN_REFUSED(C, refused.scan, LOFTSPLICE_FORM);
+}
+
+static void filters(void) {
+    static const uint8_t inclusive[] = {LOFTSPLICE_INCLUSIVE, LOFTSPLICE_INCLUSIVE}, exclusive[] = {LOFTSPLICE_EXCLUSIVE};
+    static const uint8_t both[] = {LOFTSPLICE_INCLUSIVE, LOFTSPLICE_EXCLUSIVE};
+    static const int64_t at_10[] = {10}, at_40[] = {40}, at_15[] = {15, 15};
+    loftsplice_scan s = fresh(C);
+
+    /* P10 */
+    loftsplice_filter f = fitted(s, at_10, exclusive, 1, at_40, inclusive, 1);
+    SCAN(f.scan, 0, 9, 0, LOFTSPLICE_FRESH);
+    LIMIT(f.lower, LOFTSPLICE_EXCLUSIVE, 10), LIMIT(f.upper, LOFTSPLICE_INCLUSIVE, 40), LIMIT(f.kept, LOFTSPLICE_FREE, 0);
+    SAME(f.state, LOFTSPLICE_BEFORE);
+    NONE(loftsplice_filter_current(f, LISTS(C)));
+    static const int64_t p10[] = {15, 20, 25, 30, 31, 40};
+    loftsplice_filter walking = f;
+    loftsplice_sifted m;
+    for (size_t i = 0; i < 6; i++) {
+        m = next_of(walking, C, no_lists);
+        VALUE(m.answer, p10[i]);
+        walking = m.filter;
+        SAME(walking.state, LOFTSPLICE_WITHIN), LIMIT(walking.kept, LOFTSPLICE_INCLUSIVE, 40);
+        VALUE(loftsplice_filter_current(walking, LISTS(C)), p10[i]);
+    }
+    SCAN(walking.scan, 0, 9, 6, LOFTSPLICE_AT);
+    m = next_of(walking, C, no_lists);
+    NONE(m.answer), SAME(m.filter.state, LOFTSPLICE_AFTER), LIMIT(m.filter.kept, LOFTSPLICE_FREE, 0);
+    SCAN(m.filter.scan, 0, 9, 7, LOFTSPLICE_AT);
+    NONE(loftsplice_filter_current(m.filter, LISTS(C)));
+    NONE(next_of(m.filter, C, no_lists).answer);
+    m = seek_of(walking, C, 20, no_lists);
+    VALUE(m.answer, 40);
+
+    /* reset: Before, and the scan where it stands */
+    loftsplice_reset r = loftsplice_filter_reset(walking);
+    SAME(r.refusal, 0), SAME(r.filter.state, LOFTSPLICE_BEFORE), SCAN(r.filter.scan, 0, 9, 6, LOFTSPLICE_AT);
+    LIMIT(r.filter.lower, LOFTSPLICE_EXCLUSIVE, 10), LIMIT(r.filter.upper, LOFTSPLICE_INCLUSIVE, 40), LIMIT(r.filter.kept, LOFTSPLICE_FREE, 0);
+
+    /* P11 */
+    f = fitted(s, NULL, NULL, 0, at_15, both, 2);
+    LIMIT(f.lower, LOFTSPLICE_FREE, 0), LIMIT(f.upper, LOFTSPLICE_INCLUSIVE, 15);
+    m = next_of(f, C, no_lists);
+    VALUE(m.answer, 10);
+    m = next_of(m.filter, C, no_lists);
+    VALUE(m.answer, 15);
+    NONE(next_of(m.filter, C, no_lists).answer);
+    f = fitted(s, NULL, NULL, 0, NULL, NULL, 0);
+    m = seek_of(f, C, 100, no_lists);
+    VALUE(m.answer, 10), LIMIT(m.filter.kept, LOFTSPLICE_FREE, 0), SAME(m.filter.state, LOFTSPLICE_WITHIN);
+    m = seek_of(m.filter, C, 100, no_lists);
+    VALUE(m.answer, 140), SCAN(m.filter.scan, 0, 9, 7, LOFTSPLICE_AT);
+
+    /* variable bounds: above input 1, at most input 0 */
+    static const uint64_t name_0[] = {0}, name_1[] = {1}, name_2[] = {2};
+    static const int64_t values[] = {30, 20, 5};
+    static const uint8_t all_there[] = {1, 1, 1}, one_missing[] = {1, 0, 1}, no_bit[] = {1, 2, 1};
+    lists l = {name_1, 1, exclusive, 1, name_0, 1, inclusive, 1, values, 2, all_there, 2};
+    m = next_of(f, C, l);
+    VALUE(m.answer, 25), LIMIT(m.filter.kept, LOFTSPLICE_INCLUSIVE, 30), LIMIT(m.filter.upper, LOFTSPLICE_FREE, 0);
+    m = next_of(m.filter, C, no_lists);
+    VALUE(m.answer, 30);
+    NONE(next_of(m.filter, C, no_lists).answer);
+    m = seek_of(f, C, 26, l);
+    VALUE(m.answer, 30);
+
+    /* 9: a missing input, one without a value; read Before only */
+    lists missing = l, empty = l;
+    missing.lower = name_2;
+    empty.found = one_missing;
+    CALL_REFUSED(C, f, missing, LOFTSPLICE_INPUT);
+    CALL_REFUSED(C, f, empty, LOFTSPLICE_INPUT);
+    loftsplice_filter within = next_of(f, C, l).filter;
+    VALUE(next_of(within, C, missing).answer, 30);
+
+    /* 8: 17 bounds or 9 inputs, whatever the 17th is; 7 and 6 by their place in the order */
+    static int64_t many[17];
+    static uint64_t many_inputs[17];
+    static uint8_t many_kinds[17], many_found[9];
+    memset(many_kinds, LOFTSPLICE_INCLUSIVE, sizeof many_kinds);
+    loftsplice_new_filter n = loftsplice_filter_new(s, many, 17, many_kinds, 17, NULL, 0, NULL, 0);
+    SAME(n.refusal, LOFTSPLICE_BOUNDS);
+    loftsplice_limit free_limit = {0, LOFTSPLICE_FREE};
+    loftsplice_filter no_filter = {{0, 0, 0, LOFTSPLICE_NO_STATE}, free_limit, free_limit, free_limit, LOFTSPLICE_NO_STATE};
+    FILTER(n.filter, no_filter);
+    n = loftsplice_filter_new(s, NULL, 0, NULL, 0, many, 17, many_kinds, 17);
+    SAME(n.refusal, LOFTSPLICE_BOUNDS);
+    n = loftsplice_filter_new(s, many, 16, many_kinds, 16, many, 16, many_kinds, 16);
+    SAME(n.refusal, 0), LIMIT(n.filter.lower, LOFTSPLICE_INCLUSIVE, 0);
+    many[15] = 12;
+    n = loftsplice_filter_new(s, many, 16, many_kinds, 16, NULL, 0, NULL, 0);
+    SAME(n.refusal, 0), LIMIT(n.filter.lower, LOFTSPLICE_INCLUSIVE, 12);
+    lists l17 = no_lists, l9 = no_lists;
+    l17.upper = many_inputs, l17.upper_len = 17, l17.upper_kinds = many_kinds, l17.upper_kinds_len = 17;
+    l9.values = many, l9.values_len = 9, l9.found = many_found, l9.found_len = 9;
+    CALL_REFUSED(C, f, l17, LOFTSPLICE_BOUNDS);
+    CALL_REFUSED(C, f, l9, LOFTSPLICE_BOUNDS);
+    loftsplice_filter over_d = fitted(fresh(D), NULL, NULL, 0, NULL, NULL, 0);
+    CALL_REFUSED(D, over_d, no_lists, LOFTSPLICE_ORDER);
+    CALL_REFUSED(D, over_d, missing, LOFTSPLICE_ORDER);
+    CALL_REFUSED(D, over_d, l17, LOFTSPLICE_BOUNDS);
+    CALL_REFUSED(uneven, f, l17, LOFTSPLICE_SHAPE);
+    loftsplice_scan bad_scan = {0, 10, 0, LOFTSPLICE_FRESH};
+    loftsplice_filter over_bad = fitted(bad_scan, NULL, NULL, 0, NULL, NULL, 0);
+    CALL_REFUSED(C, over_bad, l17, LOFTSPLICE_SCAN);
+    REFUSED(loftsplice_filter_current(over_bad, LISTS(C)), LOFTSPLICE_SCAN);
+
+    /* 100: lists of unequal length, kinds that are none, also in a list that is too long; before all others */
+    n = loftsplice_filter_new(s, at_15, 2, both, 1, NULL, 0, NULL, 0);
+    SAME(n.refusal, LOFTSPLICE_FORM);
+    FILTER(n.filter, no_filter);
+    n = loftsplice_filter_new(s, NULL, 0, NULL, 0, at_15, 1, both, 2);
+    SAME(n.refusal, LOFTSPLICE_FORM);
+    many_kinds[16] = LOFTSPLICE_FREE;
+    n = loftsplice_filter_new(s, many, 17, many_kinds, 17, NULL, 0, NULL, 0);
+    SAME(n.refusal, LOFTSPLICE_FORM);
+    many_kinds[16] = LOFTSPLICE_EXCLUSIVE;
+    for (unsigned kind = 0; kind < 256; kind++) {
+        uint8_t k = (uint8_t)kind;
+        int good = kind == LOFTSPLICE_INCLUSIVE || kind == LOFTSPLICE_EXCLUSIVE;
+        n = loftsplice_filter_new(s, at_10, 1, &k, 1, NULL, 0, NULL, 0);
+        SAME(n.refusal, good ? 0 : LOFTSPLICE_FORM);
+        lists one = l;
+        one.upper_kinds = &k;
+        if (!good) CALL_REFUSED(uneven, f, one, LOFTSPLICE_FORM);
+    }
+    loftsplice_scan odd = {0, 9, 0, 3};
+    n = loftsplice_filter_new(odd, NULL, 0, NULL, 0, NULL, 0, NULL, 0);
+    SAME(n.refusal, LOFTSPLICE_FORM);
+    lists short_found = l, bad_found = l, short_kinds = l;
+    short_found.found_len = 1, bad_found.found = no_bit, short_kinds.lower_kinds_len = 0;
+    CALL_REFUSED(C, f, short_found, LOFTSPLICE_FORM);
+    CALL_REFUSED(C, f, bad_found, LOFTSPLICE_FORM);
+    CALL_REFUSED(C, f, short_kinds, LOFTSPLICE_FORM);
+
+    /* every number of a filter that is to be a state or a kind, and is none */
+    loftsplice_filter bad[5] = {f, f, f, f, f};
+    bad[0].scan.state = 3, bad[1].state = 3, bad[2].lower.kind = 3, bad[3].upper.kind = UINT32_MAX, bad[4].kept.kind = 4;
+    for (size_t i = 0; i < 5; i++) {
+        bad[i].kept.value = 99;
+        CALL_REFUSED(C, bad[i], no_lists, LOFTSPLICE_FORM);
+        CALL_REFUSED(uneven, bad[i], l17, LOFTSPLICE_FORM);
+        REFUSED(loftsplice_filter_current(bad[i], LISTS(C)), LOFTSPLICE_FORM);
+        r = loftsplice_filter_reset(bad[i]);
+        SAME(r.refusal, LOFTSPLICE_FORM);
+        FILTER(r.filter, bad[i]);
+    }
+    CALL_REFUSED(C, no_filter, no_lists, LOFTSPLICE_FORM);
+}
+
+/* A listing into 8 places of output and 4 of counts, which hold -77 and 99 before; the first of them are compared with what is wanted. */
+static void listing_at(int line, column c, const uint64_t *from, size_t from_len, const uint64_t *to, size_t to_len, const int64_t *low, size_t low_len,
+    const uint8_t *low_kinds, size_t low_kinds_len, size_t out_len, size_t counts_len, uint32_t refusal, const int64_t *values, size_t sum,
+    const uint64_t *counts_wanted, size_t windows) {
+    static const int64_t at_most[] = {140};
+    static const uint8_t kinds[] = {LOFTSPLICE_INCLUSIVE};
+    int64_t out[8];
+    uint64_t counts[4];
+    for (size_t i = 0; i < 8; i++) out[i] = -77;
+    for (size_t i = 0; i < 4; i++) counts[i] = 99;
+    loftsplice_listed l = loftsplice_list(LISTS(c), from, from_len, to, to_len, low, low_len, low_kinds, low_kinds_len, at_most, 1, kinds, 1, out,
+        out_len, counts, counts_len);
+    same_at("listed.refusal", line, l.refusal, refusal);
+    same_at("listed.sum", line, (int64_t)l.sum, (int64_t)sum);
+    for (size_t i = 0; i < 8; i++) same_at("out", line, out[i], i < sum ? values[i] : -77);
+    for (size_t i = 0; i < 4; i++) same_at("counts", line, (int64_t)counts[i], i < windows ? (int64_t)counts_wanted[i] : 99);
+}
+#define LISTING(...) listing_at(__LINE__, __VA_ARGS__)
+
+static void listings(void) {
+    static const uint64_t from[] = {3, 7, 3}, to[] = {6, 9, 5}, past[] = {6, 10, 5};
+    static const int64_t above[] = {25}, all[] = {30, 31, 140, 30};
+    static const uint64_t counts[] = {2, 1, 1};
+    static const uint8_t exclusive[] = {LOFTSPLICE_EXCLUSIVE, LOFTSPLICE_EXCLUSIVE}, no_kind[] = {LOFTSPLICE_FREE};
+    LISTING(C, from, 3, to, 3, above, 1, exclusive, 1, 8, 4, 0, all, 4, counts, 3);
+    LISTING(C, from, 3, to, 3, above, 1, exclusive, 1, 4, 3, 0, all, 4, counts, 3);
+    LISTING(C, NULL, 0, NULL, 0, above, 1, exclusive, 1, 0, 0, 0, all, 0, counts, 0);
+    LISTING(C, from, 3, to, 3, above, 1, exclusive, 1, 3, 4, LOFTSPLICE_ROOM, all, 0, counts, 0);
+    LISTING(C, from, 3, to, 3, above, 1, exclusive, 1, 8, 2, LOFTSPLICE_ROOM, all, 0, counts, 0);
+    LISTING(C, from, 3, past, 3, above, 1, exclusive, 1, 8, 4, LOFTSPLICE_WINDOW, all, 0, counts, 0);
+    LISTING(C, from, 3, to, 2, above, 1, exclusive, 1, 8, 4, LOFTSPLICE_BOUNDS, all, 0, counts, 0);
+    LISTING(D, from, 0, to, 0, above, 1, exclusive, 1, 8, 4, 0, all, 0, counts, 0);
+    static const uint64_t zero[] = {0}, five[] = {5};
+    LISTING(D, zero, 1, five, 1, above, 1, exclusive, 1, 8, 4, LOFTSPLICE_ORDER, all, 0, counts, 0);
+    LISTING(uneven, from, 3, to, 2, above, 1, exclusive, 1, 8, 4, LOFTSPLICE_SHAPE, all, 0, counts, 0);
+    LISTING(uneven, from, 3, to, 2, above, 1, exclusive, 2, 8, 4, LOFTSPLICE_FORM, all, 0, counts, 0);
+    LISTING(C, from, 3, to, 3, above, 1, no_kind, 1, 8, 4, LOFTSPLICE_FORM, all, 0, counts, 0);
+    static uint64_t many[257];
+    LISTING(C, many, 257, many, 257, above, 1, exclusive, 1, 8, 4, LOFTSPLICE_BOUNDS, all, 0, counts, 0);
+}
+
+int main(void) {
+    columns();
+    scans();
+    filters();
+    listings();
+    printf("c-test: %lu comparisons, %lu failed\n", made, failed);
+    return failed != 0;
+}

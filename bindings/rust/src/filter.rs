@@ -1,0 +1,329 @@
+use crate::bound::{limit, lists};
+use crate::{raw, Bound, Refusal, Scan, Variables};
+
+/// The state of a filter.
+///
+/// ```
+/// use loftsplice::{Bound, Column, Filter, FilterState};
+///
+/// let mut filter = Filter::new(Column::new(&[7], &[3], &[2])?.scan(), &[], &[Bound::Exclusive(9)])?;
+/// assert_eq!(filter.state(), FilterState::Before);
+/// filter.next()?;
+/// assert_eq!(filter.state(), FilterState::Within(Some(Bound::Exclusive(9))));
+/// filter.next()?;
+/// assert_eq!(filter.state(), FilterState::After);
+/// # Ok::<(), loftsplice::Refusal>(())
+/// ```
+#[derive(Clone, Copy, Debug, PartialEq, Eq)]
+pub enum FilterState {
+    /// No call has moved it yet, or it was reset.
+    Before,
+    /// At an element, with the upper bound that is kept.
+    Within(Option<Bound>),
+    /// Past the last element that meets the bounds.
+    After,
+}
+
+/// The elements of a scan that meet bounds. The scan's window has to rise: each call is refused [`Refusal::Order`] if it doesn't.
+///
+/// ```
+/// use loftsplice::{Bound, Column, Filter};
+///
+/// let column = Column::new(&[10, 30], &[4, 5], &[5, 0])?; // 10 15 20 25, 30
+/// let mut filter = Filter::new(column.scan(), &[Bound::Exclusive(10)], &[Bound::Inclusive(25)])?;
+/// assert_eq!(filter.next()?, Some(15));
+/// assert_eq!(filter.seek(21)?, Some(25));
+/// assert_eq!(filter.next()?, None);
+/// # Ok::<(), loftsplice::Refusal>(())
+/// ```
+#[derive(Clone, Debug, PartialEq, Eq)]
+pub struct Filter<'a> {
+    scan: Scan<'a>,
+    filter: raw::Filter,
+}
+
+impl<'a> Filter<'a> {
+    /// A filter over a scan as it stands. The lower bound is the greatest of the list, the upper the least, where of equal values the inclusive one is
+    /// the lesser; an empty list gives none. Refused [`Refusal::Bounds`] for over 16 bounds in a list.
+    ///
+    /// ```
+    /// use loftsplice::{Bound, Column, Filter, Refusal};
+    ///
+    /// let scan = Column::new(&[7], &[3], &[2])?.scan();
+    /// let filter = Filter::new(scan.clone(), &[], &[Bound::Exclusive(9), Bound::Inclusive(9)])?;
+    /// assert_eq!(filter.upper(), Some(Bound::Inclusive(9)));
+    /// assert_eq!(Filter::new(scan, &[Bound::Inclusive(9); 17], &[]).unwrap_err(), Refusal::Bounds);
+    /// # Ok::<(), Refusal>(())
+    /// ```
+    pub fn new(scan: Scan<'a>, lower: &[Bound], upper: &[Bound]) -> Result<Filter<'a>, Refusal> {
+        let (lows, low_kinds) = lists(lower, |value| value);
+        let (ups, up_kinds) = lists(upper, |value| value);
+        let made = raw::filter_new(scan.raw(), &lows, &low_kinds, &ups, &up_kinds);
+        Refusal::or(
+            made.refusal,
+            Filter {
+                scan,
+                filter: made.filter,
+            },
+        )
+    }
+
+    /// The next element that meets the bounds, or none; or refused [`Refusal::Order`].
+    ///
+    /// ```
+    /// let mut filter = loftsplice::Filter::new(loftsplice::Column::new(&[7], &[1], &[0])?.scan(), &[], &[])?;
+    /// assert_eq!(filter.next()?, Some(7));
+    /// assert_eq!(filter.next()?, None);
+    /// # Ok::<(), loftsplice::Refusal>(())
+    /// ```
+    // An iterator's `next` can't be refused; `values` is the iterator.
+    #[allow(clippy::should_implement_trait)]
+    pub fn next(&mut self) -> Result<Option<i64>, Refusal> {
+        self.next_with(Variables::default())
+    }
+
+    /// The same with variable bounds, which are read only while the filter is before; or refused [`Refusal::Bounds`], [`Refusal::Order`],
+    /// [`Refusal::Input`].
+    ///
+    /// ```
+    /// use loftsplice::{Bound, Column, Filter, Refusal, Variables};
+    ///
+    /// let mut filter = Filter::new(Column::new(&[7], &[3], &[2])?.scan(), &[], &[])?;
+    /// let lower = [Bound::Inclusive(1)];
+    /// let missing = Variables { lower: &lower, inputs: &[Some(3)], ..Variables::default() };
+    /// assert_eq!(filter.next_with(missing).unwrap_err(), Refusal::Input);
+    /// let there = Variables { lower: &lower, inputs: &[None, Some(8)], ..Variables::default() };
+    /// assert_eq!(filter.next_with(there)?, Some(9));
+    /// # Ok::<(), Refusal>(())
+    /// ```
+    pub fn next_with(&mut self, variables: Variables<'_>) -> Result<Option<i64>, Refusal> {
+        let column = self.scan.column();
+        let filter = self.filter;
+        self.sifted(variables, |lists| {
+            raw::filter_next(
+                filter,
+                column.starts(),
+                column.ends(),
+                column.steps(),
+                lists,
+            )
+        })
+    }
+
+    /// The first element from here on that is not below the target and meets the bounds, or none; or refused [`Refusal::Order`]. Without a lower bound
+    /// the first call ignores the target.
+    ///
+    /// ```
+    /// use loftsplice::{Bound, Column, Filter};
+    ///
+    /// let column = Column::new(&[10], &[4], &[5])?; // 10 15 20 25
+    /// let mut bounded = Filter::new(column.scan(), &[Bound::Inclusive(0)], &[])?;
+    /// assert_eq!(bounded.seek(16)?, Some(20));
+    /// let mut free = Filter::new(column.scan(), &[], &[])?;
+    /// assert_eq!(free.seek(16)?, Some(10));
+    /// # Ok::<(), loftsplice::Refusal>(())
+    /// ```
+    pub fn seek(&mut self, target: i64) -> Result<Option<i64>, Refusal> {
+        self.seek_with(target, Variables::default())
+    }
+
+    /// The same with variable bounds, which are read only while the filter is before; or refused [`Refusal::Bounds`], [`Refusal::Order`],
+    /// [`Refusal::Input`].
+    ///
+    /// ```
+    /// use loftsplice::{Bound, Column, Filter, Variables};
+    ///
+    /// let mut filter = Filter::new(Column::new(&[10], &[4], &[5])?.scan(), &[], &[])?;
+    /// let at_most = Variables { upper: &[Bound::Inclusive(0)], lower: &[Bound::Inclusive(1)], inputs: &[Some(20), Some(0)] };
+    /// assert_eq!(filter.seek_with(16, at_most)?, Some(20));
+    /// assert_eq!(filter.next()?, None);
+    /// # Ok::<(), loftsplice::Refusal>(())
+    /// ```
+    pub fn seek_with(
+        &mut self,
+        target: i64,
+        variables: Variables<'_>,
+    ) -> Result<Option<i64>, Refusal> {
+        let column = self.scan.column();
+        let filter = self.filter;
+        self.sifted(variables, |lists| {
+            raw::filter_seek(
+                filter,
+                column.starts(),
+                column.ends(),
+                column.steps(),
+                target,
+                lists,
+            )
+        })
+    }
+
+    fn sifted(
+        &mut self,
+        variables: Variables<'_>,
+        call: impl Fn(raw::Variables<'_>) -> raw::Sifted,
+    ) -> Result<Option<i64>, Refusal> {
+        let (lower_inputs, lower_kinds) = lists(variables.lower, |input| input as u64);
+        let (upper_inputs, upper_kinds) = lists(variables.upper, |input| input as u64);
+        let (input_values, input_found): (Vec<i64>, Vec<u8>) = variables
+            .inputs
+            .iter()
+            .map(|input| (input.unwrap_or(0), u8::from(input.is_some())))
+            .unzip();
+        let sifted = call(raw::Variables {
+            lower_inputs: &lower_inputs,
+            lower_kinds: &lower_kinds,
+            upper_inputs: &upper_inputs,
+            upper_kinds: &upper_kinds,
+            input_values: &input_values,
+            input_found: &input_found,
+        });
+        self.filter = sifted.filter;
+        self.scan = Scan::over(self.scan.column(), sifted.filter.scan);
+        Refusal::or(
+            sifted.answer.refusal,
+            (sifted.answer.found == 1).then_some(sifted.answer.value),
+        )
+    }
+
+    /// The element that the filter stands on, or none.
+    ///
+    /// ```
+    /// let mut filter = loftsplice::Filter::new(loftsplice::Column::new(&[7], &[1], &[0])?.scan(), &[], &[])?;
+    /// assert_eq!(filter.current(), None);
+    /// filter.next()?;
+    /// assert_eq!(filter.current(), Some(7));
+    /// # Ok::<(), loftsplice::Refusal>(())
+    /// ```
+    pub fn current(&self) -> Option<i64> {
+        let column = self.scan.column();
+        let answer =
+            raw::filter_current(self.filter, column.starts(), column.ends(), column.steps());
+        (answer.found == 1).then_some(answer.value)
+    }
+
+    /// Before again. The scan is left where it stands.
+    ///
+    /// ```
+    /// let mut filter = loftsplice::Filter::new(loftsplice::Column::new(&[7], &[3], &[2])?.scan(), &[], &[])?;
+    /// filter.next()?;
+    /// filter.reset();
+    /// assert_eq!(filter.state(), loftsplice::FilterState::Before);
+    /// assert_eq!(filter.next()?, Some(9));
+    /// # Ok::<(), loftsplice::Refusal>(())
+    /// ```
+    pub fn reset(&mut self) {
+        self.filter = raw::filter_reset(self.filter).filter;
+    }
+
+    /// The scan, as it stands.
+    ///
+    /// ```
+    /// let mut filter = loftsplice::Filter::new(loftsplice::Column::new(&[7], &[3], &[2])?.scan(), &[], &[])?;
+    /// filter.next()?;
+    /// assert_eq!(filter.scan().pos(), Some(0));
+    /// # Ok::<(), loftsplice::Refusal>(())
+    /// ```
+    pub fn scan(&self) -> &Scan<'a> {
+        &self.scan
+    }
+
+    /// The filter's numbers.
+    ///
+    /// ```
+    /// let filter = loftsplice::Filter::new(loftsplice::Column::new(&[7], &[3], &[2])?.scan(), &[], &[])?;
+    /// assert_eq!(filter.raw().state, loftsplice::raw::BEFORE);
+    /// # Ok::<(), loftsplice::Refusal>(())
+    /// ```
+    pub fn raw(&self) -> raw::Filter {
+        self.filter
+    }
+
+    /// The lower bound that the constant ones fold to, or none.
+    ///
+    /// ```
+    /// use loftsplice::{Bound, Column, Filter};
+    ///
+    /// let filter = Filter::new(Column::new(&[], &[], &[])?.scan(), &[Bound::Inclusive(3), Bound::Exclusive(3)], &[])?;
+    /// assert_eq!(filter.lower(), Some(Bound::Exclusive(3)));
+    /// # Ok::<(), loftsplice::Refusal>(())
+    /// ```
+    pub fn lower(&self) -> Option<Bound> {
+        limit(self.filter.lower)
+    }
+
+    /// The upper bound that the constant ones fold to, or none.
+    ///
+    /// ```
+    /// let filter = loftsplice::Filter::new(loftsplice::Column::new(&[], &[], &[])?.scan(), &[], &[])?;
+    /// assert_eq!(filter.upper(), None);
+    /// # Ok::<(), loftsplice::Refusal>(())
+    /// ```
+    pub fn upper(&self) -> Option<Bound> {
+        limit(self.filter.upper)
+    }
+
+    /// The state.
+    ///
+    /// ```
+    /// let filter = loftsplice::Filter::new(loftsplice::Column::new(&[], &[], &[])?.scan(), &[], &[])?;
+    /// assert_eq!(filter.state(), loftsplice::FilterState::Before);
+    /// # Ok::<(), loftsplice::Refusal>(())
+    /// ```
+    pub fn state(&self) -> FilterState {
+        match self.filter.state {
+            raw::BEFORE => FilterState::Before,
+            raw::WITHIN => FilterState::Within(limit(self.filter.kept)),
+            _ => FilterState::After,
+        }
+    }
+
+    /// An iterator over the elements that are left: by `next` alone, up to none or a refusal.
+    ///
+    /// ```
+    /// use loftsplice::{Bound, Column, Filter};
+    ///
+    /// let column = Column::new(&[10, 30], &[4, 5], &[5, 0])?;
+    /// let filter = Filter::new(column.scan(), &[Bound::Exclusive(10)], &[])?;
+    /// assert_eq!(filter.values().collect::<Result<Vec<_>, _>>()?, [15, 20, 25, 30]);
+    /// # Ok::<(), loftsplice::Refusal>(())
+    /// ```
+    pub fn values(self) -> Values<'a> {
+        Values {
+            filter: self,
+            done: false,
+        }
+    }
+}
+
+/// The elements that a filter gives by `next` alone; a refusal is the last item.
+///
+/// ```
+/// use loftsplice::{Column, Filter, Refusal};
+///
+/// let falling = Column::new(&[10, 6], &[2, 5], &[-5, 1])?;
+/// let mut values = Filter::new(falling.scan(), &[], &[])?.values();
+/// assert_eq!(values.next(), Some(Err(Refusal::Order)));
+/// assert_eq!(values.next(), None);
+/// # Ok::<(), Refusal>(())
+/// ```
+#[derive(Clone, Debug)]
+pub struct Values<'a> {
+    filter: Filter<'a>,
+    done: bool,
+}
+
+impl Iterator for Values<'_> {
+    type Item = Result<i64, Refusal>;
+
+    fn next(&mut self) -> Option<Result<i64, Refusal>> {
+        if self.done {
+            return None;
+        }
+        let answer = self.filter.next().transpose();
+        self.done = !matches!(answer, Some(Ok(_)));
+        answer
+    }
+}
+
+impl std::iter::FusedIterator for Values<'_> {}

@@ -1,0 +1,37 @@
+//! Run-length columns of `i64` whose every answer is proved.
+//!
+//! This crate is a thin, safe layer over the proved library. Every call is total: what can't be answered is refused, by a [`Refusal`], and a refusal
+//! changes nothing.
+//!
+//! ```
+//! use loftsplice::{Bound, Column, Filter};
+//!
+//! // 10 15 20 25, 30, 31, 40 140 240: a start, an end (counted from the column's beginning) and a step for each run
+//! let column = Column::new(&[10, 30, 31, 40], &[4, 5, 6, 9], &[5, 0, -3, 100])?;
+//! let mut scan = column.scan();
+//! assert_eq!(scan.seek(16)?, Some(20));
+//! assert_eq!(scan.pos(), Some(2));
+//!
+//! let filter = Filter::new(column.scan(), &[Bound::Exclusive(10)], &[Bound::Inclusive(40)])?;
+//! let values: Vec<i64> = filter.values().collect::<Result<_, _>>()?;
+//! assert_eq!(values, [15, 20, 25, 30, 31, 40]);
+//! # Ok::<(), loftsplice::Refusal>(())
+//! ```
+#![deny(missing_docs, unsafe_code)]
+
+mod bound;
+mod column;
+mod filter;
+mod listing;
+pub mod raw;
+mod refusal;
+mod scan;
+#[allow(unsafe_code)]
+mod sys;
+
+pub use bound::{Bound, Variables};
+pub use column::{diff_step, Column, Place};
+pub use filter::{Filter, FilterState, Values};
+pub use listing::list;
+pub use refusal::Refusal;
+pub use scan::{Scan, ScanState};

@@ -1,0 +1,48 @@
+use std::ops::Range;
+
+use crate::bound::lists;
+use crate::{raw, Bound, Column, Refusal};
+
+/// Writes the values of each window that meet the constant bounds into `out`, window by window, and each window's number of values into `counts`;
+/// answers their sum. Places that are not filled stay as they were. Refused [`Refusal::Bounds`], [`Refusal::Window`], [`Refusal::Order`],
+/// [`Refusal::Room`], and then nothing is written.
+///
+/// ```
+/// use loftsplice::{list, Bound, Column, Refusal};
+///
+/// let column = Column::new(&[10, 30, 31, 40], &[4, 5, 6, 9], &[5, 0, -3, 100])?; // 10 15 20 25, 30, 31, 40 140 240
+/// let (mut out, mut counts) = ([0; 5], [0; 2]);
+/// let sum = list(column, &[1..4, 3..7], &[Bound::Exclusive(15)], &[Bound::Inclusive(31)], &mut out, &mut counts)?;
+/// assert_eq!((sum, out, counts), (5, [20, 25, 25, 30, 31], [2, 3]));
+/// assert_eq!(list(column, &[0..9], &[], &[], &mut out, &mut counts), Err(Refusal::Room));
+/// # Ok::<(), Refusal>(())
+/// ```
+pub fn list(
+    column: Column<'_>,
+    windows: &[Range<u64>],
+    lower: &[Bound],
+    upper: &[Bound],
+    out: &mut [i64],
+    counts: &mut [u64],
+) -> Result<u64, Refusal> {
+    let (from, to): (Vec<u64>, Vec<u64>) = windows
+        .iter()
+        .map(|window| (window.start, window.end))
+        .unzip();
+    let (lows, low_kinds) = lists(lower, |value| value);
+    let (ups, up_kinds) = lists(upper, |value| value);
+    let listed = raw::list(
+        column.starts(),
+        column.ends(),
+        column.steps(),
+        &from,
+        &to,
+        &lows,
+        &low_kinds,
+        &ups,
+        &up_kinds,
+        out,
+        counts,
+    );
+    Refusal::or(listed.refusal, listed.sum)
+}

@@ -1,0 +1,230 @@
+//! The calls as they cross to the proved library: numbers and lists of numbers. Every function takes any numbers and lists of any lengths: what
+//! can't be answered is refused, by number, in `refusal` (0: accepted). This is for columns, scans and filters that are not known to be good;
+//! [`crate::Column`], [`crate::Scan`] and [`crate::Filter`] are simpler where they are.
+//!
+//! ```
+//! use loftsplice::raw;
+//!
+//! assert_eq!(raw::check(&[1, 2], &[3], &[0, 0]), 1);
+//! let scan = raw::Scan { start: 0, end: 3, index: 0, state: 77 };
+//! let moved = raw::scan_next(scan, &[1], &[3], &[0]);
+//! assert_eq!(moved.answer.refusal, raw::FORM);
+//! assert_eq!(moved.scan, scan);
+//! ```
+
+pub use crate::sys::{
+    check, diff_step, filter_current, filter_new, filter_next, filter_reset, filter_seek, get,
+    is_empty, len, list, place, scan_current, scan_narrow, scan_new, scan_next, scan_pos,
+    scan_reset, scan_seek,
+};
+
+/// The refusal of a number that is no state or kind, and of two lists that belong together and differ in length; tried before all others.
+pub const FORM: u32 = 100;
+
+/// State of a scan: before its window's first element.
+pub const FRESH: u32 = 0;
+/// State of a scan: at an index.
+pub const AT: u32 = 1;
+/// State of a scan: past its window.
+pub const ENDED: u32 = 2;
+
+/// State of a filter: no call has moved it yet.
+pub const BEFORE: u32 = 0;
+/// State of a filter: at an element that meets the bounds.
+pub const WITHIN: u32 = 1;
+/// State of a filter: past the last one.
+pub const AFTER: u32 = 2;
+
+/// Kind of a limit: no bound. In a list of bounds it is refused [`FORM`].
+pub const FREE: u32 = 0;
+/// Kind of a bound: the value itself meets it.
+pub const INCLUSIVE: u32 = 1;
+/// Kind of a bound: the value itself does not meet it.
+pub const EXCLUSIVE: u32 = 2;
+
+/// The state in a scan or filter that was refused when it was made: no state, so that each call on it is refused [`FORM`].
+pub const NO_STATE: u32 = u32::MAX;
+
+/// A window and a state; the index is read only when [`AT`], and given as 0 otherwise.
+#[repr(C)]
+#[derive(Clone, Copy, Debug, PartialEq, Eq)]
+pub struct Scan {
+    /// The window's first index.
+    pub start: u64,
+    /// The window's end.
+    pub end: u64,
+    /// An index.
+    pub index: u64,
+    /// A state.
+    pub state: u32,
+}
+
+/// A bound, or none: kind [`FREE`] and value 0.
+#[repr(C)]
+#[derive(Clone, Copy, Debug, PartialEq, Eq)]
+pub struct Limit {
+    /// A value.
+    pub value: i64,
+    /// A kind.
+    pub kind: u32,
+}
+
+/// A scan, the folded constant bounds and a state; `kept` is read only when [`WITHIN`], and given as free otherwise.
+#[repr(C)]
+#[derive(Clone, Copy, Debug, PartialEq, Eq)]
+pub struct Filter {
+    /// The scan.
+    pub scan: Scan,
+    /// The folded lower bound.
+    pub lower: Limit,
+    /// The folded upper bound.
+    pub upper: Limit,
+    /// The bound that is kept when within.
+    pub kept: Limit,
+    /// A state.
+    pub state: u32,
+}
+
+/// The number of elements.
+#[repr(C)]
+#[derive(Clone, Copy, Debug, PartialEq, Eq)]
+pub struct Length {
+    /// The refusal's number, or 0.
+    pub refusal: u32,
+    /// The number of elements.
+    pub length: u64,
+}
+
+/// 1 if there is no element, else 0.
+#[repr(C)]
+#[derive(Clone, Copy, Debug, PartialEq, Eq)]
+pub struct Emptiness {
+    /// The refusal's number, or 0.
+    pub refusal: u32,
+    /// 1 or 0.
+    pub empty: u32,
+}
+
+/// The run that an index lies in, from 0, and its offset there.
+#[repr(C)]
+#[derive(Clone, Copy, Debug, PartialEq, Eq)]
+pub struct Place {
+    /// The refusal's number, or 0.
+    pub refusal: u32,
+    /// The run.
+    pub run: u64,
+    /// The offset in it.
+    pub offset: u64,
+}
+
+/// `found` 1 and the step, or 0: there is none.
+#[repr(C)]
+#[derive(Clone, Copy, Debug, PartialEq, Eq)]
+pub struct Difference {
+    /// 1 or 0.
+    pub found: u32,
+    /// The step.
+    pub step: i16,
+}
+
+/// `found` 1 and the element, or 0: none.
+#[repr(C)]
+#[derive(Clone, Copy, Debug, PartialEq, Eq)]
+pub struct Answer {
+    /// The refusal's number, or 0.
+    pub refusal: u32,
+    /// 1 or 0.
+    pub found: u32,
+    /// A value.
+    pub value: i64,
+}
+
+/// `found` 1 and the index, or 0: none.
+#[repr(C)]
+#[derive(Clone, Copy, Debug, PartialEq, Eq)]
+pub struct Position {
+    /// The refusal's number, or 0.
+    pub refusal: u32,
+    /// 1 or 0.
+    pub found: u32,
+    /// An index.
+    pub index: u64,
+}
+
+/// A new scan; if refused, one in state [`NO_STATE`].
+#[repr(C)]
+#[derive(Clone, Copy, Debug, PartialEq, Eq)]
+pub struct NewScan {
+    /// The refusal's number, or 0.
+    pub refusal: u32,
+    /// The scan.
+    pub scan: Scan,
+}
+
+/// The scan as the call leaves it, and the answer. A refusal: the scan as it went in, every number of it.
+#[repr(C)]
+#[derive(Clone, Copy, Debug, PartialEq, Eq)]
+pub struct Moved {
+    /// The scan.
+    pub scan: Scan,
+    /// The answer.
+    pub answer: Answer,
+}
+
+/// A new filter; if refused, one in state [`NO_STATE`].
+#[repr(C)]
+#[derive(Clone, Copy, Debug, PartialEq, Eq)]
+pub struct NewFilter {
+    /// The refusal's number, or 0.
+    pub refusal: u32,
+    /// The filter.
+    pub filter: Filter,
+}
+
+/// The filter as the call leaves it, and the answer. A refusal: the filter as it went in, every number of it.
+#[repr(C)]
+#[derive(Clone, Copy, Debug, PartialEq, Eq)]
+pub struct Sifted {
+    /// The filter.
+    pub filter: Filter,
+    /// The answer.
+    pub answer: Answer,
+}
+
+/// The filter after its reset; `refusal` is 0 or [`FORM`].
+#[repr(C)]
+#[derive(Clone, Copy, Debug, PartialEq, Eq)]
+pub struct Reset {
+    /// The refusal's number, or 0.
+    pub refusal: u32,
+    /// The filter.
+    pub filter: Filter,
+}
+
+/// What a filter's `next` and `seek` are handed: variable bounds, an input's number (from 0) and a kind each, and inputs, a value each and 1 if it has
+/// one, 0 if not.
+#[derive(Clone, Copy, Debug, Default)]
+pub struct Variables<'a> {
+    /// The inputs that the lower bounds name.
+    pub lower_inputs: &'a [u64],
+    /// The lower bounds' kinds.
+    pub lower_kinds: &'a [u8],
+    /// The inputs that the upper bounds name.
+    pub upper_inputs: &'a [u64],
+    /// The upper bounds' kinds.
+    pub upper_kinds: &'a [u8],
+    /// The inputs' values.
+    pub input_values: &'a [i64],
+    /// Whether each input has a value: 1 or 0.
+    pub input_found: &'a [u8],
+}
+
+/// The number of values written.
+#[repr(C)]
+#[derive(Clone, Copy, Debug, PartialEq, Eq)]
+pub struct Listed {
+    /// The refusal's number, or 0.
+    pub refusal: u32,
+    /// The number of values written.
+    pub sum: u64,
+}

@@ -1,0 +1,116 @@
+use std::fmt;
+
+/// Why a call is refused.
+///
+/// ```
+/// use loftsplice::{Column, Refusal};
+///
+/// let why = Column::new(&[1, 2], &[3, 3], &[0, 0]).unwrap_err();
+/// assert_eq!(why, Refusal::Ends);
+/// assert_eq!(why.number(), 2);
+/// assert_eq!(why.to_string(), "2 ENDS: an end is not above the one before (the first: above 0), or is over 4,294,967,295");
+/// ```
+#[derive(Clone, Copy, Debug, PartialEq, Eq, Hash)]
+#[non_exhaustive]
+pub enum Refusal {
+    /// 1: array lengths differ, or over 4,096 runs.
+    Shape,
+    /// 2: an end is not above the one before (the first: above 0), or is over 4,294,967,295.
+    Ends,
+    /// 3: a run's last element is outside `i64`.
+    Reach,
+    /// 4: element asked at index ≥ length; place asked above length.
+    Index,
+    /// 5: window end above length.
+    Window,
+    /// 6: the scan's window end is above length, or its index is outside its window.
+    Scan,
+    /// 7: seek, filter or listing over a window that doesn't rise.
+    Order,
+    /// 8: over 16 bounds in a list, over 8 inputs; over 256 windows or window lists of unequal length.
+    Bounds,
+    /// 9: a variable bound names an input that isn't there or has no value.
+    Input,
+    /// 10: an output has fewer places than the answer needs.
+    Room,
+    /// 11: fewer than 4 bytes, or fewer than the length says.
+    Cut,
+    /// 12: kind is not 1.
+    Kind,
+    /// 13: length under 2 or over 57,346, or length minus 2 no multiple of 14.
+    Size,
+    /// 100: a number that is no state or kind, or two lists that belong together and differ in length. Only [`crate::raw`] can give it.
+    Form,
+    /// A number that this crate does not know.
+    Other(u32),
+}
+
+/// Each refusal with its number, name and condition.
+const TABLE: [(Refusal, u32, &str, &str); 14] = [
+    (Refusal::Shape, 1, "SHAPE", "array lengths differ, or over 4,096 runs"),
+    (Refusal::Ends, 2, "ENDS", "an end is not above the one before (the first: above 0), or is over 4,294,967,295"),
+    (Refusal::Reach, 3, "REACH", "a run's last element is outside i64"),
+    (Refusal::Index, 4, "INDEX", "element asked at index ≥ length; place asked above length"),
+    (Refusal::Window, 5, "WINDOW", "window end above length"),
+    (Refusal::Scan, 6, "SCAN", "the scan's window end is above length, or its index is outside its window"),
+    (Refusal::Order, 7, "ORDER", "seek, filter or listing over a window that doesn't rise"),
+    (Refusal::Bounds, 8, "BOUNDS", "over 16 bounds in a list, over 8 inputs; over 256 windows or window lists of unequal length"),
+    (Refusal::Input, 9, "INPUT", "a variable bound names an input that isn't there or has no value"),
+    (Refusal::Room, 10, "ROOM", "an output has fewer places than the answer needs"),
+    (Refusal::Cut, 11, "CUT", "fewer than 4 bytes, or fewer than the length says"),
+    (Refusal::Kind, 12, "KIND", "kind is not 1"),
+    (Refusal::Size, 13, "SIZE", "length under 2 or over 57,346, or length minus 2 no multiple of 14"),
+    (Refusal::Form, 100, "FORM", "a number that is no state or kind, or two lists that belong together and differ in length"),
+];
+
+impl Refusal {
+    /// The refusal's number.
+    ///
+    /// ```
+    /// assert_eq!(loftsplice::Refusal::Order.number(), 7);
+    /// ```
+    pub fn number(self) -> u32 {
+        match self {
+            Refusal::Other(number) => number,
+            known => TABLE
+                .iter()
+                .find(|row| row.0 == known)
+                .map_or(0, |row| row.1),
+        }
+    }
+
+    /// The refusal of a number; none for 0, which is no refusal.
+    ///
+    /// ```
+    /// use loftsplice::Refusal;
+    ///
+    /// assert_eq!(Refusal::of(7), Some(Refusal::Order));
+    /// assert_eq!(Refusal::of(0), None);
+    /// ```
+    pub fn of(number: u32) -> Option<Refusal> {
+        match TABLE.iter().find(|row| row.1 == number) {
+            Some(row) => Some(row.0),
+            None if number == 0 => None,
+            None => Some(Refusal::Other(number)),
+        }
+    }
+
+    /// What a call gives that is not refused, or the refusal.
+    pub(crate) fn or<T>(number: u32, given: T) -> Result<T, Refusal> {
+        match Refusal::of(number) {
+            None => Ok(given),
+            Some(refusal) => Err(refusal),
+        }
+    }
+}
+
+impl fmt::Display for Refusal {
+    fn fmt(&self, to: &mut fmt::Formatter<'_>) -> fmt::Result {
+        match TABLE.iter().find(|row| row.0 == *self) {
+            Some((_, number, name, condition)) => write!(to, "{number} {name}: {condition}"),
+            None => write!(to, "{}: unknown", self.number()),
+        }
+    }
+}
+
+impl std::error::Error for Refusal {}

@@ -1,0 +1,208 @@
+use std::ops::Range;
+
+use crate::{raw, Column, Refusal};
+
+/// The state of a scan.
+///
+/// ```
+/// use loftsplice::{Column, ScanState};
+///
+/// let mut scan = Column::new(&[7], &[3], &[2])?.scan();
+/// assert_eq!(scan.state(), ScanState::Fresh);
+/// scan.next();
+/// assert_eq!(scan.state(), ScanState::At(0));
+/// # Ok::<(), loftsplice::Refusal>(())
+/// ```
+#[derive(Clone, Copy, Debug, PartialEq, Eq)]
+pub enum ScanState {
+    /// Before the window's first element.
+    Fresh,
+    /// At an index.
+    At(u64),
+    /// Past the window.
+    Ended,
+}
+
+/// A scan over a window of a column. As an iterator it gives the elements from its place on.
+///
+/// ```
+/// use loftsplice::Column;
+///
+/// let mut scan = Column::new(&[10, 30], &[4, 5], &[5, 0])?.scan(); // 10 15 20 25, 30
+/// assert_eq!(scan.next(), Some(10));
+/// assert_eq!(scan.seek(16)?, Some(20));
+/// assert_eq!(scan.pos(), Some(2));
+/// assert_eq!(scan.by_ref().collect::<Vec<_>>(), [25, 30]);
+/// scan.narrow(1..3)?;
+/// assert_eq!(scan.collect::<Vec<_>>(), [15, 20]);
+/// # Ok::<(), loftsplice::Refusal>(())
+/// ```
+#[derive(Clone, Debug, PartialEq, Eq)]
+pub struct Scan<'a> {
+    column: Column<'a>,
+    scan: raw::Scan,
+}
+
+impl<'a> Scan<'a> {
+    /// A scan that the library gave, of the same column: so no call on it is refused 1, 2, 3, 6 or 100.
+    pub(crate) fn over(column: Column<'a>, scan: raw::Scan) -> Scan<'a> {
+        Scan { column, scan }
+    }
+
+    fn moved(&mut self, moved: raw::Moved) -> Result<Option<i64>, Refusal> {
+        self.scan = moved.scan;
+        Refusal::or(
+            moved.answer.refusal,
+            (moved.answer.found == 1).then_some(moved.answer.value),
+        )
+    }
+
+    /// The column.
+    ///
+    /// ```
+    /// let column = loftsplice::Column::new(&[7], &[3], &[2])?;
+    /// assert_eq!(column.scan().column(), column);
+    /// # Ok::<(), loftsplice::Refusal>(())
+    /// ```
+    pub fn column(&self) -> Column<'a> {
+        self.column
+    }
+
+    /// The scan's numbers.
+    ///
+    /// ```
+    /// let scan = loftsplice::Column::new(&[7], &[3], &[2])?.scan();
+    /// assert_eq!(scan.raw().end, 3);
+    /// # Ok::<(), loftsplice::Refusal>(())
+    /// ```
+    pub fn raw(&self) -> raw::Scan {
+        self.scan
+    }
+
+    /// The window: from its first index up to but not including its end.
+    ///
+    /// ```
+    /// assert_eq!(loftsplice::Column::new(&[7], &[3], &[2])?.scan().window(), 0..3);
+    /// # Ok::<(), loftsplice::Refusal>(())
+    /// ```
+    pub fn window(&self) -> Range<u64> {
+        self.scan.start..self.scan.end
+    }
+
+    /// The state.
+    ///
+    /// ```
+    /// let mut scan = loftsplice::Column::new(&[7], &[3], &[2])?.scan();
+    /// scan.seek(100)?;
+    /// assert_eq!(scan.state(), loftsplice::ScanState::Ended);
+    /// # Ok::<(), loftsplice::Refusal>(())
+    /// ```
+    pub fn state(&self) -> ScanState {
+        match self.scan.state {
+            raw::FRESH => ScanState::Fresh,
+            raw::AT => ScanState::At(self.scan.index),
+            _ => ScanState::Ended,
+        }
+    }
+
+    /// To the first element from here on that is not below the target, or none; or refused [`Refusal::Order`], if the window doesn't rise.
+    ///
+    /// ```
+    /// use loftsplice::{Column, Refusal};
+    ///
+    /// let mut scan = Column::new(&[10, 6], &[2, 5], &[-5, 1])?.scan(); // 10 5, 6 7 8
+    /// assert_eq!(scan.seek(6).unwrap_err(), Refusal::Order);
+    /// scan.narrow(1..5)?;
+    /// assert_eq!(scan.seek(6)?, Some(6));
+    /// assert_eq!(scan.seek(9)?, None);
+    /// # Ok::<(), Refusal>(())
+    /// ```
+    pub fn seek(&mut self, target: i64) -> Result<Option<i64>, Refusal> {
+        let column = self.column;
+        self.moved(raw::scan_seek(
+            self.scan,
+            column.starts(),
+            column.ends(),
+            column.steps(),
+            target,
+        ))
+    }
+
+    /// To another window of the column, before its first element; or refused [`Refusal::Window`]. A window counts from the column's beginning and
+    /// may be wider than the one before; a start at or above its end makes it empty.
+    ///
+    /// ```
+    /// use loftsplice::{Column, Refusal};
+    ///
+    /// let mut scan = Column::new(&[7], &[3], &[2])?.scan();
+    /// scan.narrow(2..3)?;
+    /// assert_eq!(scan.next(), Some(11));
+    /// assert_eq!(scan.narrow(0..4).unwrap_err(), Refusal::Window);
+    /// # Ok::<(), Refusal>(())
+    /// ```
+    pub fn narrow(&mut self, window: Range<u64>) -> Result<(), Refusal> {
+        let column = self.column;
+        self.moved(raw::scan_narrow(
+            self.scan,
+            column.starts(),
+            column.ends(),
+            column.steps(),
+            window.start,
+            window.end,
+        ))
+        .map(|_| ())
+    }
+
+    /// Before the window's first element.
+    ///
+    /// ```
+    /// let mut scan = loftsplice::Column::new(&[7], &[3], &[2])?.scan();
+    /// assert_eq!(scan.next(), Some(7));
+    /// scan.reset();
+    /// assert_eq!(scan.next(), Some(7));
+    /// # Ok::<(), loftsplice::Refusal>(())
+    /// ```
+    pub fn reset(&mut self) {
+        let column = self.column;
+        self.scan = raw::scan_reset(self.scan, column.starts(), column.ends(), column.steps()).scan;
+    }
+
+    /// The element that the scan is at, or none.
+    ///
+    /// ```
+    /// let mut scan = loftsplice::Column::new(&[7], &[3], &[2])?.scan();
+    /// assert_eq!(scan.current(), None);
+    /// scan.next();
+    /// assert_eq!(scan.current(), Some(7));
+    /// # Ok::<(), loftsplice::Refusal>(())
+    /// ```
+    pub fn current(&self) -> Option<i64> {
+        let column = self.column;
+        let answer = raw::scan_current(self.scan, column.starts(), column.ends(), column.steps());
+        (answer.found == 1).then_some(answer.value)
+    }
+
+    /// The index that the scan is at, or none.
+    ///
+    /// ```
+    /// let mut scan = loftsplice::Column::new(&[7], &[3], &[2])?.scan();
+    /// scan.seek(8)?;
+    /// assert_eq!(scan.pos(), Some(1));
+    /// # Ok::<(), loftsplice::Refusal>(())
+    /// ```
+    pub fn pos(&self) -> Option<u64> {
+        let column = self.column;
+        let position = raw::scan_pos(self.scan, column.starts(), column.ends(), column.steps());
+        (position.found == 1).then_some(position.index)
+    }
+}
+
+impl Iterator for Scan<'_> {
+    type Item = i64;
+
+    fn next(&mut self) -> Option<i64> {
+        let column = self.column;
+        let moved = raw::scan_next(self.scan, column.starts(), column.ends(), column.steps());
+        self.moved(moved).ok().flatten()
+    }
+}

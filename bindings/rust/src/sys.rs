@@ -1,0 +1,574 @@
+//! The only module with `unsafe`: the exported functions of the proved archive, and a safe function over each.
+//!
+//! Each exported function is proved to be total (it has no condition for its caller), to read only the places of the lists that it is lent, and to
+//! keep no pointer. What is left to show at each call is said there.
+use crate::raw::{
+    Answer, Difference, Emptiness, Filter, Length, Listed, Moved, NewFilter, NewScan, Place,
+    Position, Reset, Scan, Sifted, Variables,
+};
+
+extern "C" {
+    fn loftsplice_check(
+        starts: *const i64,
+        starts_len: usize,
+        ends: *const u64,
+        ends_len: usize,
+        steps: *const i16,
+        steps_len: usize,
+    ) -> u32;
+    fn loftsplice_len(
+        starts: *const i64,
+        starts_len: usize,
+        ends: *const u64,
+        ends_len: usize,
+        steps: *const i16,
+        steps_len: usize,
+    ) -> Length;
+    fn loftsplice_is_empty(
+        starts: *const i64,
+        starts_len: usize,
+        ends: *const u64,
+        ends_len: usize,
+        steps: *const i16,
+        steps_len: usize,
+    ) -> Emptiness;
+    fn loftsplice_place(
+        starts: *const i64,
+        starts_len: usize,
+        ends: *const u64,
+        ends_len: usize,
+        steps: *const i16,
+        steps_len: usize,
+        index: u64,
+    ) -> Place;
+    fn loftsplice_get(
+        starts: *const i64,
+        starts_len: usize,
+        ends: *const u64,
+        ends_len: usize,
+        steps: *const i16,
+        steps_len: usize,
+        index: u64,
+    ) -> Answer;
+    fn loftsplice_diff_step(previous: i64, current: i64) -> Difference;
+    fn loftsplice_scan_new(
+        starts: *const i64,
+        starts_len: usize,
+        ends: *const u64,
+        ends_len: usize,
+        steps: *const i16,
+        steps_len: usize,
+    ) -> NewScan;
+    fn loftsplice_scan_next(
+        scan: Scan,
+        starts: *const i64,
+        starts_len: usize,
+        ends: *const u64,
+        ends_len: usize,
+        steps: *const i16,
+        steps_len: usize,
+    ) -> Moved;
+    fn loftsplice_scan_seek(
+        scan: Scan,
+        starts: *const i64,
+        starts_len: usize,
+        ends: *const u64,
+        ends_len: usize,
+        steps: *const i16,
+        steps_len: usize,
+        target: i64,
+    ) -> Moved;
+    fn loftsplice_scan_narrow(
+        scan: Scan,
+        starts: *const i64,
+        starts_len: usize,
+        ends: *const u64,
+        ends_len: usize,
+        steps: *const i16,
+        steps_len: usize,
+        start: u64,
+        end: u64,
+    ) -> Moved;
+    fn loftsplice_scan_reset(
+        scan: Scan,
+        starts: *const i64,
+        starts_len: usize,
+        ends: *const u64,
+        ends_len: usize,
+        steps: *const i16,
+        steps_len: usize,
+    ) -> Moved;
+    fn loftsplice_scan_current(
+        scan: Scan,
+        starts: *const i64,
+        starts_len: usize,
+        ends: *const u64,
+        ends_len: usize,
+        steps: *const i16,
+        steps_len: usize,
+    ) -> Answer;
+    fn loftsplice_scan_pos(
+        scan: Scan,
+        starts: *const i64,
+        starts_len: usize,
+        ends: *const u64,
+        ends_len: usize,
+        steps: *const i16,
+        steps_len: usize,
+    ) -> Position;
+    fn loftsplice_filter_new(
+        scan: Scan,
+        lower_values: *const i64,
+        lower_values_len: usize,
+        lower_kinds: *const u8,
+        lower_kinds_len: usize,
+        upper_values: *const i64,
+        upper_values_len: usize,
+        upper_kinds: *const u8,
+        upper_kinds_len: usize,
+    ) -> NewFilter;
+    fn loftsplice_filter_next(
+        filter: Filter,
+        starts: *const i64,
+        starts_len: usize,
+        ends: *const u64,
+        ends_len: usize,
+        steps: *const i16,
+        steps_len: usize,
+        lower_inputs: *const u64,
+        lower_inputs_len: usize,
+        lower_kinds: *const u8,
+        lower_kinds_len: usize,
+        upper_inputs: *const u64,
+        upper_inputs_len: usize,
+        upper_kinds: *const u8,
+        upper_kinds_len: usize,
+        input_values: *const i64,
+        input_values_len: usize,
+        input_found: *const u8,
+        input_found_len: usize,
+    ) -> Sifted;
+    fn loftsplice_filter_seek(
+        filter: Filter,
+        starts: *const i64,
+        starts_len: usize,
+        ends: *const u64,
+        ends_len: usize,
+        steps: *const i16,
+        steps_len: usize,
+        target: i64,
+        lower_inputs: *const u64,
+        lower_inputs_len: usize,
+        lower_kinds: *const u8,
+        lower_kinds_len: usize,
+        upper_inputs: *const u64,
+        upper_inputs_len: usize,
+        upper_kinds: *const u8,
+        upper_kinds_len: usize,
+        input_values: *const i64,
+        input_values_len: usize,
+        input_found: *const u8,
+        input_found_len: usize,
+    ) -> Sifted;
+    fn loftsplice_filter_current(
+        filter: Filter,
+        starts: *const i64,
+        starts_len: usize,
+        ends: *const u64,
+        ends_len: usize,
+        steps: *const i16,
+        steps_len: usize,
+    ) -> Answer;
+    fn loftsplice_list(
+        starts: *const i64,
+        starts_len: usize,
+        ends: *const u64,
+        ends_len: usize,
+        steps: *const i16,
+        steps_len: usize,
+        from: *const u64,
+        from_len: usize,
+        to: *const u64,
+        to_len: usize,
+        lower_values: *const i64,
+        lower_values_len: usize,
+        lower_kinds: *const u8,
+        lower_kinds_len: usize,
+        upper_values: *const i64,
+        upper_values_len: usize,
+        upper_kinds: *const u8,
+        upper_kinds_len: usize,
+        out: *mut i64,
+        out_len: usize,
+        counts: *mut u64,
+        counts_len: usize,
+    ) -> Listed;
+    fn loftsplice_filter_reset(filter: Filter) -> Reset;
+}
+
+/// Whether the three lists are a column: 0, or refused 1, 2, 3.
+pub fn check(starts: &[i64], ends: &[u64], steps: &[i16]) -> u32 {
+    // SAFETY: each pointer and length are those of a slice that is borrowed for the whole call, and every number is allowed.
+    unsafe {
+        loftsplice_check(
+            starts.as_ptr(),
+            starts.len(),
+            ends.as_ptr(),
+            ends.len(),
+            steps.as_ptr(),
+            steps.len(),
+        )
+    }
+}
+
+/// The number of elements; or refused 1, 2, 3.
+pub fn len(starts: &[i64], ends: &[u64], steps: &[i16]) -> Length {
+    // SAFETY: each pointer and length are those of a slice that is borrowed for the whole call, and every number is allowed.
+    unsafe {
+        loftsplice_len(
+            starts.as_ptr(),
+            starts.len(),
+            ends.as_ptr(),
+            ends.len(),
+            steps.as_ptr(),
+            steps.len(),
+        )
+    }
+}
+
+/// Whether there is no element; or refused 1, 2, 3.
+pub fn is_empty(starts: &[i64], ends: &[u64], steps: &[i16]) -> Emptiness {
+    // SAFETY: each pointer and length are those of a slice that is borrowed for the whole call, and every number is allowed.
+    unsafe {
+        loftsplice_is_empty(
+            starts.as_ptr(),
+            starts.len(),
+            ends.as_ptr(),
+            ends.len(),
+            steps.as_ptr(),
+            steps.len(),
+        )
+    }
+}
+
+/// The run and offset of an index, (run count, 0) for the length; or refused 1, 2, 3, 4.
+pub fn place(starts: &[i64], ends: &[u64], steps: &[i16], index: u64) -> Place {
+    // SAFETY: each pointer and length are those of a slice that is borrowed for the whole call, and every number is allowed.
+    unsafe {
+        loftsplice_place(
+            starts.as_ptr(),
+            starts.len(),
+            ends.as_ptr(),
+            ends.len(),
+            steps.as_ptr(),
+            steps.len(),
+            index,
+        )
+    }
+}
+
+/// The element at an index, `found` 1; or refused 1, 2, 3, 4.
+pub fn get(starts: &[i64], ends: &[u64], steps: &[i16], index: u64) -> Answer {
+    // SAFETY: each pointer and length are those of a slice that is borrowed for the whole call, and every number is allowed.
+    unsafe {
+        loftsplice_get(
+            starts.as_ptr(),
+            starts.len(),
+            ends.as_ptr(),
+            ends.len(),
+            steps.as_ptr(),
+            steps.len(),
+            index,
+        )
+    }
+}
+
+/// The step from one value to another, if there is one.
+pub fn diff_step(previous: i64, current: i64) -> Difference {
+    // SAFETY: only numbers are handed over, and every number is allowed.
+    unsafe { loftsplice_diff_step(previous, current) }
+}
+
+/// A fresh scan over the whole column; or refused 1, 2, 3.
+pub fn scan_new(starts: &[i64], ends: &[u64], steps: &[i16]) -> NewScan {
+    // SAFETY: each pointer and length are those of a slice that is borrowed for the whole call, and every number is allowed.
+    unsafe {
+        loftsplice_scan_new(
+            starts.as_ptr(),
+            starts.len(),
+            ends.as_ptr(),
+            ends.len(),
+            steps.as_ptr(),
+            steps.len(),
+        )
+    }
+}
+
+/// To the next element, or none at the window's end; or refused 100, 1, 2, 3, 6.
+pub fn scan_next(scan: Scan, starts: &[i64], ends: &[u64], steps: &[i16]) -> Moved {
+    // SAFETY: each pointer and length are those of a slice that is borrowed for the whole call, and every number is allowed.
+    unsafe {
+        loftsplice_scan_next(
+            scan,
+            starts.as_ptr(),
+            starts.len(),
+            ends.as_ptr(),
+            ends.len(),
+            steps.as_ptr(),
+            steps.len(),
+        )
+    }
+}
+
+/// To the first element from here on that is not below the target, or none; or refused 100, 1, 2, 3, 6, 7.
+pub fn scan_seek(scan: Scan, starts: &[i64], ends: &[u64], steps: &[i16], target: i64) -> Moved {
+    // SAFETY: each pointer and length are those of a slice that is borrowed for the whole call, and every number is allowed.
+    unsafe {
+        loftsplice_scan_seek(
+            scan,
+            starts.as_ptr(),
+            starts.len(),
+            ends.as_ptr(),
+            ends.len(),
+            steps.as_ptr(),
+            steps.len(),
+            target,
+        )
+    }
+}
+
+/// To another window of the column, fresh, answering none; or refused 100, 1, 2, 3, 6, 5.
+pub fn scan_narrow(
+    scan: Scan,
+    starts: &[i64],
+    ends: &[u64],
+    steps: &[i16],
+    start: u64,
+    end: u64,
+) -> Moved {
+    // SAFETY: each pointer and length are those of a slice that is borrowed for the whole call, and every number is allowed.
+    unsafe {
+        loftsplice_scan_narrow(
+            scan,
+            starts.as_ptr(),
+            starts.len(),
+            ends.as_ptr(),
+            ends.len(),
+            steps.as_ptr(),
+            steps.len(),
+            start,
+            end,
+        )
+    }
+}
+
+/// Fresh in the same window, answering none; or refused 100, 1, 2, 3, 6.
+pub fn scan_reset(scan: Scan, starts: &[i64], ends: &[u64], steps: &[i16]) -> Moved {
+    // SAFETY: each pointer and length are those of a slice that is borrowed for the whole call, and every number is allowed.
+    unsafe {
+        loftsplice_scan_reset(
+            scan,
+            starts.as_ptr(),
+            starts.len(),
+            ends.as_ptr(),
+            ends.len(),
+            steps.as_ptr(),
+            steps.len(),
+        )
+    }
+}
+
+/// The element that the scan is at, or none; or refused 100, 1, 2, 3, 6.
+pub fn scan_current(scan: Scan, starts: &[i64], ends: &[u64], steps: &[i16]) -> Answer {
+    // SAFETY: each pointer and length are those of a slice that is borrowed for the whole call, and every number is allowed.
+    unsafe {
+        loftsplice_scan_current(
+            scan,
+            starts.as_ptr(),
+            starts.len(),
+            ends.as_ptr(),
+            ends.len(),
+            steps.as_ptr(),
+            steps.len(),
+        )
+    }
+}
+
+/// The index that the scan is at, or none; or refused 100, 1, 2, 3, 6.
+pub fn scan_pos(scan: Scan, starts: &[i64], ends: &[u64], steps: &[i16]) -> Position {
+    // SAFETY: each pointer and length are those of a slice that is borrowed for the whole call, and every number is allowed.
+    unsafe {
+        loftsplice_scan_pos(
+            scan,
+            starts.as_ptr(),
+            starts.len(),
+            ends.as_ptr(),
+            ends.len(),
+            steps.as_ptr(),
+            steps.len(),
+        )
+    }
+}
+
+/// A filter over a scan, its constant bounds (a value and a kind each) folded; or refused 100, 8.
+pub fn filter_new(
+    scan: Scan,
+    lower_values: &[i64],
+    lower_kinds: &[u8],
+    upper_values: &[i64],
+    upper_kinds: &[u8],
+) -> NewFilter {
+    // SAFETY: each pointer and length are those of a slice that is borrowed for the whole call, and every number is allowed.
+    unsafe {
+        loftsplice_filter_new(
+            scan,
+            lower_values.as_ptr(),
+            lower_values.len(),
+            lower_kinds.as_ptr(),
+            lower_kinds.len(),
+            upper_values.as_ptr(),
+            upper_values.len(),
+            upper_kinds.as_ptr(),
+            upper_kinds.len(),
+        )
+    }
+}
+
+/// To the next element that meets the bounds, or none; or refused 100, 1, 2, 3, 6, 8, 7, 9.
+pub fn filter_next(
+    filter: Filter,
+    starts: &[i64],
+    ends: &[u64],
+    steps: &[i16],
+    variables: Variables<'_>,
+) -> Sifted {
+    // SAFETY: each pointer and length are those of a slice that is borrowed for the whole call, and every number is allowed.
+    unsafe {
+        loftsplice_filter_next(
+            filter,
+            starts.as_ptr(),
+            starts.len(),
+            ends.as_ptr(),
+            ends.len(),
+            steps.as_ptr(),
+            steps.len(),
+            variables.lower_inputs.as_ptr(),
+            variables.lower_inputs.len(),
+            variables.lower_kinds.as_ptr(),
+            variables.lower_kinds.len(),
+            variables.upper_inputs.as_ptr(),
+            variables.upper_inputs.len(),
+            variables.upper_kinds.as_ptr(),
+            variables.upper_kinds.len(),
+            variables.input_values.as_ptr(),
+            variables.input_values.len(),
+            variables.input_found.as_ptr(),
+            variables.input_found.len(),
+        )
+    }
+}
+
+/// To the first element from here on that meets the bounds and is not below the target, or none; or refused 100, 1, 2, 3, 6, 8, 7, 9.
+pub fn filter_seek(
+    filter: Filter,
+    starts: &[i64],
+    ends: &[u64],
+    steps: &[i16],
+    target: i64,
+    variables: Variables<'_>,
+) -> Sifted {
+    // SAFETY: each pointer and length are those of a slice that is borrowed for the whole call, and every number is allowed.
+    unsafe {
+        loftsplice_filter_seek(
+            filter,
+            starts.as_ptr(),
+            starts.len(),
+            ends.as_ptr(),
+            ends.len(),
+            steps.as_ptr(),
+            steps.len(),
+            target,
+            variables.lower_inputs.as_ptr(),
+            variables.lower_inputs.len(),
+            variables.lower_kinds.as_ptr(),
+            variables.lower_kinds.len(),
+            variables.upper_inputs.as_ptr(),
+            variables.upper_inputs.len(),
+            variables.upper_kinds.as_ptr(),
+            variables.upper_kinds.len(),
+            variables.input_values.as_ptr(),
+            variables.input_values.len(),
+            variables.input_found.as_ptr(),
+            variables.input_found.len(),
+        )
+    }
+}
+
+/// The element that the filter stands on when within, else none; or refused 100, 1, 2, 3, 6.
+pub fn filter_current(filter: Filter, starts: &[i64], ends: &[u64], steps: &[i16]) -> Answer {
+    // SAFETY: each pointer and length are those of a slice that is borrowed for the whole call, and every number is allowed.
+    unsafe {
+        loftsplice_filter_current(
+            filter,
+            starts.as_ptr(),
+            starts.len(),
+            ends.as_ptr(),
+            ends.len(),
+            steps.as_ptr(),
+            steps.len(),
+        )
+    }
+}
+
+/// Before again, the scan as it stands; or refused 100.
+pub fn filter_reset(filter: Filter) -> Reset {
+    // SAFETY: only numbers are handed over, and every number is allowed.
+    unsafe { loftsplice_filter_reset(filter) }
+}
+
+/// Writes the values of each window that meet the constant bounds into `out`, window by window, and each window's number of values into `counts`;
+/// answers their sum. Or refused 100, 1, 2, 3, 8, 5, 7, 10.
+// A window list, a bound list and an output are two lists each here, as they cross.
+#[allow(clippy::too_many_arguments)]
+pub fn list(
+    starts: &[i64],
+    ends: &[u64],
+    steps: &[i16],
+    from: &[u64],
+    to: &[u64],
+    lower_values: &[i64],
+    lower_kinds: &[u8],
+    upper_values: &[i64],
+    upper_kinds: &[u8],
+    out: &mut [i64],
+    counts: &mut [u64],
+) -> Listed {
+    // SAFETY: each pointer and length are those of a slice that is borrowed for the whole call, the two that are written of slices borrowed for
+    // writing, so that they overlap with no other; and every number is allowed.
+    unsafe {
+        loftsplice_list(
+            starts.as_ptr(),
+            starts.len(),
+            ends.as_ptr(),
+            ends.len(),
+            steps.as_ptr(),
+            steps.len(),
+            from.as_ptr(),
+            from.len(),
+            to.as_ptr(),
+            to.len(),
+            lower_values.as_ptr(),
+            lower_values.len(),
+            lower_kinds.as_ptr(),
+            lower_kinds.len(),
+            upper_values.as_ptr(),
+            upper_values.len(),
+            upper_kinds.as_ptr(),
+            upper_kinds.len(),
+            out.as_mut_ptr(),
+            out.len(),
+            counts.as_mut_ptr(),
+            counts.len(),
+        )
+    }
+}

@@ -1,0 +1,231 @@
+//! Document 01's examples through the safe calls, and refusals, also of bad numbers, through `raw`.
+use loftsplice::{raw, Bound, Column, Filter, Place, Refusal, Scan, ScanState};
+
+/// 10 15 20 25, 30, 31, 40 140 240
+const C: (&[i64], &[u64], &[i16]) = (&[10, 30, 31, 40], &[4, 5, 6, 9], &[5, 0, -3, 100]);
+/// 10 5, 6 7 8
+const D: (&[i64], &[u64], &[i16]) = (&[10, 6], &[2, 5], &[-5, 1]);
+
+fn column(lists: (&'static [i64], &'static [u64], &'static [i16])) -> Column<'static> {
+    Column::new(lists.0, lists.1, lists.2).unwrap()
+}
+
+fn narrowed(column: Column<'static>, start: u64, end: u64) -> Scan<'static> {
+    let mut scan = column.scan();
+    scan.narrow(start..end).unwrap();
+    scan
+}
+
+#[test]
+fn p1_p2_elements_and_places() {
+    let c = column(C);
+    assert_eq!(
+        (c.get(3), c.get(8), c.get(9)),
+        (Ok(25), Ok(240), Err(Refusal::Index))
+    );
+    assert_eq!(c.place(4), Ok(Place { run: 1, offset: 0 }));
+    assert_eq!(c.place(9), Ok(Place { run: 4, offset: 0 }));
+    assert_eq!(c.place(10), Err(Refusal::Index));
+}
+
+#[test]
+fn p3_to_p6_seeks() {
+    let mut scan = column(C).scan();
+    assert_eq!((scan.seek(16), scan.pos()), (Ok(Some(20)), Some(2)));
+    let mut scan = column(C).scan();
+    assert_eq!((scan.seek(26), scan.pos()), (Ok(Some(30)), Some(4)));
+    assert_eq!(
+        (scan.seek(31), scan.seek(12), scan.pos()),
+        (Ok(Some(31)), Ok(Some(31)), Some(5))
+    );
+    assert_eq!(
+        (scan.seek(241), scan.next(), scan.state()),
+        (Ok(None), None, ScanState::Ended)
+    );
+}
+
+#[test]
+fn p7_to_p9_windows() {
+    let mut scan = narrowed(column(C), 3, 8);
+    assert_eq!((scan.next(), scan.seek(200)), (Some(25), Ok(None)));
+    assert_eq!(narrowed(column(C), 3, 3).next(), None);
+    assert_eq!(narrowed(column(C), 8, 2).next(), None);
+    let mut scan = column(C).scan();
+    assert_eq!(
+        (scan.narrow(0..10), scan.window()),
+        (Err(Refusal::Window), 0..9)
+    );
+    assert_eq!(column(D).scan().seek(6), Err(Refusal::Order));
+    let mut scan = narrowed(column(D), 1, 5);
+    assert_eq!((scan.seek(6), scan.pos()), (Ok(Some(6)), Some(2)));
+}
+
+#[test]
+fn p10_p11_filters() {
+    let values = |lower: &[Bound], upper: &[Bound]| -> Vec<i64> {
+        let filter = Filter::new(column(C).scan(), lower, upper).unwrap();
+        filter.values().collect::<Result<_, _>>().unwrap()
+    };
+    assert_eq!(
+        values(&[Bound::Exclusive(10)], &[Bound::Inclusive(40)]),
+        [15, 20, 25, 30, 31, 40]
+    );
+    assert_eq!(
+        values(&[], &[Bound::Inclusive(15), Bound::Exclusive(15)]),
+        [10, 15]
+    );
+    let mut filter = Filter::new(column(C).scan(), &[], &[]).unwrap();
+    assert_eq!(filter.seek(100), Ok(Some(10)));
+}
+
+#[test]
+fn p12_reach() {
+    assert_eq!(
+        Column::new(&[9223372036854775800], &[8], &[1]).map(|c| c.get(7)),
+        Ok(Ok(i64::MAX))
+    );
+    assert_eq!(
+        Column::new(&[9223372036854775800], &[9], &[1]).unwrap_err(),
+        Refusal::Reach
+    );
+}
+
+#[test]
+fn every_refusal_has_its_number() {
+    for number in (1..=13).chain([100, 77]) {
+        assert_eq!(Refusal::of(number).map(Refusal::number), Some(number));
+    }
+    assert_eq!(Refusal::of(77), Some(Refusal::Other(77)));
+}
+
+#[test]
+fn bad_numbers_are_refused_and_come_back() {
+    let (starts, ends, steps) = C;
+    for state in (3..300).chain([u32::MAX]) {
+        let scan = raw::Scan {
+            start: 1,
+            end: 9,
+            index: 77,
+            state,
+        };
+        let answer = raw::Answer {
+            refusal: raw::FORM,
+            found: 0,
+            value: 0,
+        };
+        assert_eq!(
+            raw::scan_next(scan, starts, ends, steps),
+            raw::Moved { scan, answer }
+        );
+        assert_eq!(
+            raw::scan_seek(scan, starts, &[], steps, 5),
+            raw::Moved { scan, answer }
+        );
+        assert_eq!(raw::scan_current(scan, starts, ends, steps), answer);
+        let made = raw::filter_new(scan, &[], &[], &[], &[]);
+        assert_eq!(
+            (made.refusal, made.filter.state),
+            (raw::FORM, raw::NO_STATE)
+        );
+        let kept = raw::Limit {
+            value: 5,
+            kind: state,
+        };
+        let free = raw::Limit {
+            value: 0,
+            kind: raw::FREE,
+        };
+        let fresh = raw::Scan {
+            start: 0,
+            end: 9,
+            index: 0,
+            state: raw::FRESH,
+        };
+        let filter = raw::Filter {
+            scan: fresh,
+            lower: free,
+            upper: free,
+            kept,
+            state: raw::BEFORE,
+        };
+        assert_eq!(
+            raw::filter_next(filter, starts, ends, steps, raw::Variables::default()),
+            raw::Sifted { filter, answer }
+        );
+        assert_eq!(
+            raw::filter_reset(filter),
+            raw::Reset {
+                refusal: raw::FORM,
+                filter
+            }
+        );
+    }
+    let fresh = raw::scan_new(starts, ends, steps).scan;
+    for kind in 0..=255 {
+        let refusal = if kind == 1 || kind == 2 { 0 } else { raw::FORM };
+        assert_eq!(
+            raw::filter_new(fresh, &[], &[], &[5], &[kind]).refusal,
+            refusal
+        );
+    }
+    assert_eq!(
+        raw::filter_new(fresh, &[5], &[], &[], &[]).refusal,
+        raw::FORM
+    );
+    assert_eq!(
+        raw::filter_new(fresh, &[5; 17], &[1; 17], &[], &[]).refusal,
+        8
+    );
+    assert_eq!(raw::scan_new(starts, &ends[1..], steps).refusal, 1);
+}
+
+#[test]
+fn a_refused_listing_writes_nothing() {
+    let (starts, ends, steps) = C;
+    let (mut out, mut counts) = ([-77; 4], [99; 3]);
+    let listed = raw::list(
+        starts,
+        ends,
+        steps,
+        &[0, 3],
+        &[9, 6],
+        &[],
+        &[],
+        &[],
+        &[],
+        &mut out,
+        &mut counts,
+    );
+    assert_eq!(
+        (listed, out, counts),
+        (
+            raw::Listed {
+                refusal: 10,
+                sum: 0
+            },
+            [-77; 4],
+            [99; 3]
+        )
+    );
+    let listed = raw::list(
+        starts,
+        ends,
+        steps,
+        &[3],
+        &[6],
+        &[],
+        &[],
+        &[],
+        &[],
+        &mut out,
+        &mut counts,
+    );
+    assert_eq!(
+        (listed, out, counts),
+        (
+            raw::Listed { refusal: 0, sum: 3 },
+            [25, 30, 31, -77],
+            [3, 99, 99]
+        )
+    );
+}

@@ -1,0 +1,4 @@
+pub mod Carried
+pub mod Scans
+pub mod Lists
+pub mod Filters

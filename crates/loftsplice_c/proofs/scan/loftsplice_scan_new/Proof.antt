@@ -1,0 +1,40 @@
+-- `loftsplice_scan_new` meets its contract. Assumes nothing.
+use Rattle.loftsplice.specs.Scan.{saysMade}
+use Rattle.loftsplice_c.specs.Scan.{flatNewScan}
+use Rattle.loftsplice_c.proofs.Carried.{carried}
+use borrow.Author.Needs.{needs}
+use Rattle.loftsplice_c.proofs.scan.loftsplice_scan_new.Statement.{statement}
+use Rattle.loftsplice_c.proofs.scan.loftsplice_scan_new.Tie as tie
+
+new-requires : tie.Need-new-requires
+new-requires c κs = search needs
+
+enum-known-made : tie.Need-enum-known-made
+enum-known-made c = search needs
+
+flat-scan-requires : tie.Need-flat-scan-requires
+flat-scan-requires c κs = search needs
+
+enum-known-made-2 : tie.Need-enum-known-made-2
+enum-known-made-2 c = search needs
+
+number-requires : tie.Need-number-requires
+number-requires c κs = search needs
+
+returns : tie.Need-returns
+returns c = rw (c .flat-scan .ensures) (carried saysMade flatNewScan (c .before .before .before .before .new .ensures) (c .before .before .made .given .1))
+
+returns-2 : tie.Need-returns-2
+returns-2 c = rw (c .number .ensures) (carried saysMade flatNewScan (c .before .before .before .before .new .ensures) (c .before .before .made2 .given .1))
+
+pub loftsplice-scan-new-spec : {M : Type 1} → statement M
+loftsplice-scan-new-spec =
+    tie.close
+    (tie.spec
+    new-requires
+    enum-known-made
+    flat-scan-requires
+    enum-known-made-2
+    number-requires
+    returns
+    returns-2)

@@ -1,0 +1,15 @@
+-- The flattened answer of the calls that give an element, none or a refusal. Assumes nothing.
+use mathlib.Core.Option.{Option, some, none}
+use lib.IntN.{ℤ, pos}
+use Rattle.meaning.specs.Refusals.{Said, Gives, Number}
+use Rattle.loftsplice_c.specs.declared.answer.FlatAnswer.{FlatAnswer}
+use Rattle.loftsplice_c.specs.Flat.{refusalIn, givenOr, foundIn, thereOr}
+
+-- a refusal's number or 0; 1 if there is an element, else 0; the element or 0
+abbrev pub flatAnswer : Said (Option ℤ) → FlatAnswer
+flatAnswer s = record { refusal = refusalIn s; found = foundIn (givenOr none s); value = thereOr (pos 0) (givenOr none s) }
+
+-- an element that is always there, unless the call is refused
+abbrev pub answered : Said ℤ → Said (Option ℤ)
+answered (Gives v) = Gives (some v)
+answered (Number n) = Number n

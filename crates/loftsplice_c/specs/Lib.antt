@@ -1,0 +1,7 @@
+pub mod Flat
+pub mod Answer
+pub mod Column
+pub mod Scan
+pub mod Limits
+pub mod Filter
+pub mod Listing

@@ -1,0 +1,301 @@
+// A scan as numbers, and the calls on it.
+ghost use mathlib.Core.Path.{_≡_};
+ghost use Rattle.meaning.specs.Refusals.{Number};
+ghost use Rattle.meaning.specs.Column.{lent, sourceOf};
+ghost use Rattle.loftsplice.specs.Scan.{outcomeOf, saysPosition, newOf, nextOf, seekOf, narrowOf, resetOf, currentOf, posOf};
+ghost use Rattle.loftsplice_c.specs.Flat.{form};
+ghost use Rattle.loftsplice_c.specs.Answer.{flatAnswer};
+ghost use Rattle.loftsplice_c.specs.Scan.{isState, stateOf, scanOf, flatScan, flatMoved, callScan, askScan, flatPosition, flatNewScan};
+use crate::answer::FlatAnswer;
+use crate::answer::flat_answer;
+use loftsplice::refusal::number;
+use loftsplice::scan::Made;
+use loftsplice::scan::Moved;
+use loftsplice::scan::Position;
+use loftsplice::scan::Scan;
+use loftsplice::scan::State;
+use meaning::Answer;
+
+// A window, and a state: 0 fresh, 1 at an index, 2 ended. The index is read in state 1 only, and given as 0 in the others.
+#[repr(C)]
+pub struct FlatScan {
+    pub start: u64,
+    pub end: u64,
+    pub index: u64,
+    pub state: u32,
+}
+
+// A refusal's number and a scan that is none, or 0 and the scan.
+#[repr(C)]
+pub struct FlatNewScan {
+    pub refusal: u32,
+    pub scan: FlatScan,
+}
+
+// "Its calls take the scan and hand it back with the answer"
+#[repr(C)]
+pub struct FlatMoved {
+    pub scan: FlatScan,
+    pub answer: FlatAnswer,
+}
+
+// A refusal's number or 0; 1 and the index, or 0 and 0.
+#[repr(C)]
+pub struct FlatPosition {
+    pub refusal: u32,
+    pub found: u32,
+    pub index: u64,
+}
+
+// Whether a number is a state.
+pub(crate) fn is_state(state: u32) -> bool
+    ensures { λ r. ⌜ r ≡ isState state ⌝ }
+{
+    state <= 2
+}
+
+// The state of a number that is one: of any other too, but then FORM is given.
+fn state_of(number: u32, index: u64) -> State
+    ensures { λ r. ⌜ r ≡ stateOf number index ⌝ }
+{
+    if number == 0 {
+        State::Fresh
+    } else if number == 1 {
+        State::At(index)
+    } else {
+        State::Ended
+    }
+}
+
+pub(crate) fn scan_of(scan: FlatScan) -> Scan
+    ensures { λ r. ⌜ r ≡ scanOf scan ⌝ }
+{
+    let start = scan.start;
+    let end = scan.end;
+    let state = state_of(scan.state, scan.index);
+    Scan { start, end, state }
+}
+
+pub(crate) fn flat_scan(scan: Scan) -> FlatScan
+    ensures { λ r. ⌜ r ≡ flatScan scan ⌝ }
+{
+    let start = scan.start;
+    let end = scan.end;
+    let state = scan.state;
+    match state {
+        State::Fresh => FlatScan {
+            start,
+            end,
+            index: 0,
+            state: 0,
+        },
+        State::At(index) => FlatScan {
+            start,
+            end,
+            index,
+            state: 1,
+        },
+        State::Ended => FlatScan {
+            start,
+            end,
+            index: 0,
+            state: 2,
+        },
+    }
+}
+
+// A refused call hands back the scan that came in.
+fn flat_moved(given: FlatScan, moved: Moved) -> FlatMoved
+    ensures { λ r. ⌜ r ≡ flatMoved given (outcomeOf moved) ⌝ }
+{
+    let answer = moved.answer;
+    let scan = moved.scan;
+    let told = flat_answer(answer);
+    match answer {
+        Answer::Refused(_) => FlatMoved {
+            scan: given,
+            answer: told,
+        },
+        Answer::Value(_) => FlatMoved {
+            scan: flat_scan(scan),
+            answer: told,
+        },
+        Answer::None => FlatMoved {
+            scan: flat_scan(scan),
+            answer: told,
+        },
+    }
+}
+
+fn flat_position(position: Position) -> FlatPosition
+    ensures { λ r. ⌜ r ≡ flatPosition (saysPosition position) ⌝ }
+{
+    match position {
+        Position::Index(index) => FlatPosition {
+            refusal: 0,
+            found: 1,
+            index,
+        },
+        Position::None => FlatPosition {
+            refusal: 0,
+            found: 0,
+            index: 0,
+        },
+        Position::Refused(why) => FlatPosition {
+            refusal: number(why),
+            found: 0,
+            index: 0,
+        },
+    }
+}
+
+// 100 FORM, as an answer.
+pub(crate) fn bad_form() -> FlatAnswer
+    ensures { λ r. ⌜ r ≡ flatAnswer (Number form) ⌝ }
+{
+    FlatAnswer {
+        refusal: 100,
+        found: 0,
+        value: 0,
+    }
+}
+
+// "A new scan has the whole column"; or refused 1, 2, 3.
+#[no_mangle]
+pub extern "C" fn loftsplice_scan_new(starts: &[i64], ends: &[u64], steps: &[i16]) -> FlatNewScan
+    ensures { λ r. ⌜ r ≡ flatNewScan (newOf (sourceOf (lent (now (starts .entry)) (now (ends .entry)) (now (steps .entry))))) ⌝ }
+{
+    let made = Scan::new(starts, ends, steps);
+    match made {
+        Made::Ready(scan) => FlatNewScan {
+            refusal: 0,
+            scan: flat_scan(scan),
+        },
+        Made::Refused(why) => FlatNewScan {
+            refusal: number(why),
+            scan: FlatScan {
+                start: 0,
+                end: 0,
+                index: 0,
+                state: 4294967295,
+            },
+        },
+    }
+}
+
+// The next element, or none; or refused 100, 1, 2, 3, 6.
+#[no_mangle]
+pub extern "C" fn loftsplice_scan_next(
+    scan: FlatScan,
+    starts: &[i64],
+    ends: &[u64],
+    steps: &[i16],
+) -> FlatMoved
+    ensures { λ r. ⌜ r ≡ callScan scan (nextOf (sourceOf (lent (now (starts .entry)) (now (ends .entry)) (now (steps .entry))))) ⌝ }
+{
+    if is_state(scan.state) {
+        let moved = scan_of(scan).next(starts, ends, steps);
+        flat_moved(scan, moved)
+    } else {
+        let answer = bad_form();
+        FlatMoved { scan, answer }
+    }
+}
+
+// The first element from the current index on that is not below the target, or none; or refused 100, 1, 2, 3, 6, 7.
+#[no_mangle]
+pub extern "C" fn loftsplice_scan_seek(
+    scan: FlatScan,
+    starts: &[i64],
+    ends: &[u64],
+    steps: &[i16],
+    target: i64,
+) -> FlatMoved
+    ensures { λ r. ⌜ r ≡ callScan scan (seekOf (sourceOf (lent (now (starts .entry)) (now (ends .entry)) (now (steps .entry)))) target) ⌝ }
+{
+    if is_state(scan.state) {
+        let moved = scan_of(scan).seek(starts, ends, steps, target);
+        flat_moved(scan, moved)
+    } else {
+        let answer = bad_form();
+        FlatMoved { scan, answer }
+    }
+}
+
+// Another window, before its first element; or refused 100, 1, 2, 3, 6, 5.
+#[no_mangle]
+pub extern "C" fn loftsplice_scan_narrow(
+    scan: FlatScan,
+    starts: &[i64],
+    ends: &[u64],
+    steps: &[i16],
+    start: u64,
+    end: u64,
+) -> FlatMoved
+    ensures { λ r. ⌜ r ≡ callScan scan (narrowOf (sourceOf (lent (now (starts .entry)) (now (ends .entry)) (now (steps .entry)))) start end) ⌝ }
+{
+    if is_state(scan.state) {
+        let moved = scan_of(scan).narrow(starts, ends, steps, start, end);
+        flat_moved(scan, moved)
+    } else {
+        let answer = bad_form();
+        FlatMoved { scan, answer }
+    }
+}
+
+// The same window, before its first element; or refused 100, 1, 2, 3, 6.
+#[no_mangle]
+pub extern "C" fn loftsplice_scan_reset(
+    scan: FlatScan,
+    starts: &[i64],
+    ends: &[u64],
+    steps: &[i16],
+) -> FlatMoved
+    ensures { λ r. ⌜ r ≡ callScan scan (resetOf (sourceOf (lent (now (starts .entry)) (now (ends .entry)) (now (steps .entry))))) ⌝ }
+{
+    if is_state(scan.state) {
+        let moved = scan_of(scan).reset(starts, ends, steps);
+        flat_moved(scan, moved)
+    } else {
+        let answer = bad_form();
+        FlatMoved { scan, answer }
+    }
+}
+
+// The element when at an index, else none; or refused 100, 1, 2, 3, 6.
+#[no_mangle]
+pub extern "C" fn loftsplice_scan_current(
+    scan: FlatScan,
+    starts: &[i64],
+    ends: &[u64],
+    steps: &[i16],
+) -> FlatAnswer
+    ensures { λ r. ⌜ r ≡ flatAnswer (askScan scan (currentOf (sourceOf (lent (now (starts .entry)) (now (ends .entry)) (now (steps .entry)))))) ⌝ }
+{
+    if is_state(scan.state) {
+        flat_answer(scan_of(scan).current(starts, ends, steps))
+    } else {
+        bad_form()
+    }
+}
+
+// The index when at one, else none; or refused 100, 1, 2, 3, 6.
+#[no_mangle]
+pub extern "C" fn loftsplice_scan_pos(
+    scan: FlatScan,
+    starts: &[i64],
+    ends: &[u64],
+    steps: &[i16],
+) -> FlatPosition
+    ensures { λ r. ⌜ r ≡ flatPosition (askScan scan (posOf (sourceOf (lent (now (starts .entry)) (now (ends .entry)) (now (steps .entry)))))) ⌝ }
+{
+    if is_state(scan.state) {
+        flat_position(scan_of(scan).pos(starts, ends, steps))
+    } else {
+        FlatPosition {
+            refusal: 100,
+            found: 0,
+            index: 0,
+        }
+    }
+}
