@@ -1,0 +1,62 @@
+//! The Rust as the judge. Three answer the same calls: the Rust's own text, unchanged (`rust`; build.rs takes it from outside this repository), a model
+//! of document 01 (`model`), and the library as it is shipped (`port`, a feature). README.md of this folder says how to run it.
+
+/// In place of the crate's forwarding macro: makes a macro that calls the same method on whatever variant there is. The text's own list of variants
+/// and its own calls go in; a call reaches the variant's method and nothing else.
+#[cfg(rust_text)]
+#[macro_export]
+macro_rules! generate_forwarder {
+    ($name:ident; $($variant:ident),+) => {
+        $crate::generate_forwarder!(@with ($) $name; $($variant),+);
+    };
+    (@with ($d:tt) $name:ident; $($variant:ident),+) => {
+        macro_rules! $name {
+            ($d this:ident, $d call:ident) => {
+                match $d this { $(Self::$variant(scan) => scan.$d call()),+ }
+            };
+            ($d this:ident, $d call:ident($d argument:expr)) => {
+                match $d this { $(Self::$variant(scan) => scan.$d call($d argument)),+ }
+            };
+        }
+    };
+}
+
+// The text asks for `num::Zero`, of a package that is not here: this crate answers to that name, with the stand-in.
+#[cfg(rust_text)]
+extern crate self as num;
+#[cfg(rust_text)]
+pub use standins::Zero;
+
+#[cfg(rust_text)]
+mod standins;
+
+/// The name under which the text asks for `ByteSized`.
+#[cfg(rust_text)]
+pub(crate) mod management {
+    pub(crate) use crate::standins::bytesized;
+}
+
+// The Rust's text, unchanged, at its own module paths (build.rs writes the tree).
+#[cfg(rust_text)]
+include!(concat!(env!("OUT_DIR"), "/tree.rs"));
+
+pub mod calls;
+pub mod model;
+#[cfg(rust_text)]
+pub mod rust;
+
+#[cfg(test)]
+mod sums {
+    include!("../sha256.rs");
+
+    /// The three published examples of the standard.
+    #[test]
+    fn known_sums() {
+        assert_eq!(sha256(b""), "e3b0c44298fc1c149afbf4c8996fb92427ae41e4649b934ca495991b7852b855");
+        assert_eq!(sha256(b"abc"), "ba7816bf8f01cfea414140de5dae2223b00361a396177a9cb410ff61f20015ad");
+        assert_eq!(
+            sha256(b"abcdbcdecdefdefgefghfghighijhijkijkljklmklmnlmnomnopnopq"),
+            "248d6a61d20638b8e5c026930c3e6039a33ce45964ff2167f6ecedd419db06c1"
+        );
+    }
+}
