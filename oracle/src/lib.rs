@@ -41,9 +41,33 @@ pub(crate) mod management {
 include!(concat!(env!("OUT_DIR"), "/tree.rs"));
 
 pub mod calls;
+pub mod compare;
+pub mod corpus;
+pub mod exhaustive;
 pub mod model;
+#[cfg(feature = "port")]
+pub mod port;
+#[cfg(not(feature = "port"))]
+#[path = "port_absent.rs"]
+pub mod port;
+pub mod random;
 #[cfg(rust_text)]
 pub mod rust;
+#[cfg(not(rust_text))]
+#[path = "rust_absent.rs"]
+pub mod rust;
+
+/// Says who is there, one line each.
+pub fn announce() {
+    if !env!("ORACLE_MUTANT").is_empty() {
+        println!("MUTANT: the Rust's text is NOT the agreed one; its sums were not asked for");
+    }
+    match (rust::PRESENT, port::PRESENT) {
+        (true, true) => println!("the Rust, the model and the port are compared"),
+        (true, false) => println!("the port is not built in (feature `port`): the Rust and the model are compared"),
+        (false, _) => println!("the Rust's text is not there (LOFTSPLICE_RUST_SOURCE): only the model and the port are compared"),
+    }
+}
 
 #[cfg(test)]
 mod sums {

@@ -68,6 +68,7 @@ pub const PRESENT: bool = true;
 
 /// One scan of the Rust's, with room for a filter over it.
 pub struct Session<'a> {
+    column: &'a ColumnRle<i64>,
     cell: &'a ColumnScanCell<'a, i64>,
     inputs: &'a [ColumnScanCell<'a, i64>],
     values: &'a [i64],
@@ -87,7 +88,7 @@ struct Filter<'a> {
 pub fn play<R>(column: &Column, values: &[i64], table: &Column, with: impl for<'a> FnOnce(Session<'a>) -> R) -> R {
     let inputs: [ColumnScanCell<i64>; 8] = std::array::from_fn(|_| ColumnScanRle::new(&table.0).into());
     let cell = ColumnScanCell::from(ColumnScanRle::new(&column.0));
-    with(Session { cell: &cell, inputs: &inputs, values, filter: None })
+    with(Session { column: &column.0, cell: &cell, inputs: &inputs, values, filter: None })
 }
 
 impl<'a> Session<'a> {
@@ -100,6 +101,12 @@ impl<'a> Session<'a> {
     /// Makes one accepted call and says what the Rust answered.
     pub fn call(&mut self, call: &Call) -> Said {
         match call {
+            Call::New => {
+                self.filter = None;
+                // SAFETY: the cell's content is reached through this session alone, whose filter has just been dropped; no reference into it is left.
+                unsafe { *self.cell.0.get() = ColumnScanRle::new(self.column).into() };
+                Said::Ok
+            }
             Call::Next => said(self.cell.next()),
             Call::Seek(target) => said(self.cell.seek(*target)),
             Call::Current => said(self.cell.current()),
