@@ -51,6 +51,7 @@ pub mod port;
 #[path = "port_absent.rs"]
 pub mod port;
 pub mod random;
+pub mod replay;
 #[cfg(rust_text)]
 pub mod rust;
 #[cfg(not(rust_text))]

@@ -169,31 +169,45 @@ fn call(d: &mut Dice, c: &model::Column, values: &[i64], filter: bool) -> Call {
 }
 
 /// Values that inputs may have.
-fn values(d: &mut Dice, c: &model::Column) -> Vec<i64> {
+pub fn values(d: &mut Dice, c: &model::Column) -> Vec<i64> {
     let mut values: Vec<i64> = (0..6).map(|_| value(d, c)).collect();
     values.sort_unstable();
     values.dedup();
     values
 }
 
-/// The calls of one random sequence: scan calls, then, half of the time, filters as well.
-pub fn calls(d: &mut Dice, c: &model::Column, values: &[i64], count: u64) -> Vec<Call> {
+/// The calls of one random sequence. Kinds: `scan` has scan calls alone, `filter` no scan call once there is a filter, `mixed` all.
+pub fn calls_of(d: &mut Dice, c: &model::Column, values: &[i64], count: u64, kind: &str) -> Vec<Call> {
     let mut calls = vec![Call::New];
     if !d.once_in(3) {
         let (start, end) = window(d, c);
         calls.push(Call::Narrow(start, end));
     }
-    let filter = d.once_in(2);
     for _ in 0..d.below(count) {
         calls.push(call(d, c, values, false));
     }
-    if filter {
+    if kind != "scan" {
         // One that is not refused, so that there is a filter.
         let some = |d: &mut Dice| (0..d.below(3)).map(|_| Bound { value: value(d, c), exclusive: d.once_in(2) }).collect();
         calls.push(Call::FilterNew(some(d), some(d)));
         for _ in 0..d.below(count) {
-            calls.push(call(d, c, values, true));
+            let next = call(d, c, values, true);
+            if kind == "mixed" || next.is_filter() {
+                calls.push(next);
+            }
         }
+    }
+    calls
+}
+
+/// Check, places, elements and steps.
+pub fn column_calls(d: &mut Dice, c: &model::Column) -> Vec<Call> {
+    let mut calls = vec![Call::Check];
+    for _ in 0..4 {
+        let i = index(d, c).saturating_add(d.pick(&[0, 0, 0, 1]));
+        let (p, q) = (value(d, c), value(d, c));
+        let r = p.wrapping_add(d.pick(&[32767, 32768, -32768, -32769, 0, 5]));
+        calls.extend([Call::Place(i), Call::Element(i), Call::Diff(p, q), Call::Diff(p, r)]);
     }
     calls
 }
@@ -230,24 +244,19 @@ pub fn round(d: &mut Dice, most: u64, tally: &mut Tally) {
     let mut bench = Bench::new(&c, &values);
     let big = runs.ends.len() > 200;
     bench.look_every = if big { 0 } else { 97 };
-    alone(&mut bench, &Call::Check, tally);
-    for _ in 0..4 {
-        let i = index(d, &c).saturating_add(d.pick(&[0, 0, 0, 1]));
-        alone(&mut bench, &Call::Place(i), tally);
-        alone(&mut bench, &Call::Element(i), tally);
-        let (p, q) = (value(d, &c), value(d, &c));
-        alone(&mut bench, &Call::Diff(p, q), tally);
-        let q = p.wrapping_add(d.pick(&[32767, 32768, -32768, -32769, 0, 5]));
-        alone(&mut bench, &Call::Diff(p, q), tally);
+    for call in column_calls(d, &c) {
+        alone(&mut bench, &call, tally);
     }
     for _ in 0..if broken { 1 } else { 12 } {
-        let calls = calls(d, &c, &values, if big { 30 } else { 60 });
+        let kind = d.pick(&["scan", "mixed"]);
+        let calls = calls_of(d, &c, &values, if big { 30 } else { 60 }, kind);
         sequence(&mut bench, &calls, tally);
         if tally.full() {
             return;
         }
     }
-    hand(d, &mut bench, &c, &values, tally);
+    let (scan, calls) = hand_calls(d, &c, &values);
+    by_hand(&mut bench, scan, &calls, tally);
     for _ in 0..2 {
         let listing = listing(d, &c);
         alone(&mut bench, &listing, tally);
@@ -255,7 +264,8 @@ pub fn round(d: &mut Dice, most: u64, tally: &mut Tally) {
     records(d, &mut bench, runs.ends.len(), tally);
 }
 
-fn hand(d: &mut Dice, bench: &mut Bench, c: &model::Column, values: &[i64], tally: &mut Tally) {
+/// A scan put together by hand, mostly one that no call gives, and calls to start from it.
+pub fn hand_calls(d: &mut Dice, c: &model::Column, values: &[i64]) -> (Scan, Vec<Call>) {
     let (start, end) = window(d, c);
     let state = match d.below(6) {
         0 => State::Fresh,
@@ -266,11 +276,11 @@ fn hand(d: &mut Dice, bench: &mut Bench, c: &model::Column, values: &[i64], tall
         _ => State::At(start),
     };
     let calls: Vec<Call> = (0..8).map(|_| call(d, c, values, true)).filter(|c| !matches!(c, Call::FilterNew(..))).collect();
-    by_hand(bench, Scan { start, end, state }, &calls, tally);
+    (Scan { start, end, state }, calls)
 }
 
 /// A listing of windows that mostly rise, with room that is short, right or long; what it needs is asked of the model.
-fn listing(d: &mut Dice, c: &model::Column) -> Call {
+pub fn listing(d: &mut Dice, c: &model::Column) -> Call {
     let n = match d.below(20) {
         0 => d.pick(&[255, 256, 257]),
         _ => d.below(5),
@@ -323,4 +333,24 @@ fn records(d: &mut Dice, bench: &mut Bench, n: usize, tally: &mut Tally) {
         broken.extend(&[9; 30][..d.below(30) as usize]);
         alone(bench, &Call::Read(broken, [n + 3, n + 3, n + 3]), tally);
     }
+}
+
+/// A record to read: the column's own, or cut, damaged, or with bytes after it.
+pub fn record(d: &mut Dice, c: &model::Column) -> Call {
+    let n = c.runs.ends.len();
+    let mut bytes = match model::Session::new(c).call(&Call::Write(6 + 14 * n)) {
+        Said::Written(bytes) => bytes,
+        _ => vec![2, 0, 0, 0, 1, 0],
+    };
+    match d.below(4) {
+        0 => bytes.truncate(d.below(bytes.len() as u64 + 1) as usize),
+        1 => {
+            let at = d.below(bytes.len() as u64) as usize;
+            bytes[at] = d.word() as u8;
+        }
+        2 => bytes.extend(&[9; 30][..d.below(30) as usize]),
+        _ => {}
+    }
+    let mut place = || n.saturating_add_signed(d.pick(&[0, 0, 0, 1, 3, -1]));
+    Call::Read(bytes, [place(), place(), place()])
 }
