@@ -1,4 +1,4 @@
-// SHA-256 of a byte string, in hex (FIPS 180-4), so that the build needs no command and no package. Used by build.rs; tested in src/lib.rs.
+// SHA-256 of a byte string, in hex (FIPS 180-4), so that the build needs no command and no package. Used by build.rs; tested in tests/sums.rs.
 
 /// The first 32 bits of the fractional part of the root of each of the first `N` primes.
 fn roots<const N: usize>(root: impl Fn(f64) -> f64, power: u32) -> [u32; N] {
