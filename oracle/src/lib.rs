@@ -51,6 +51,8 @@ pub mod port;
 #[path = "port_absent.rs"]
 pub mod port;
 pub mod random;
+#[cfg(rust_text)]
+pub mod rattle;
 pub mod replay;
 #[cfg(rust_text)]
 pub mod rust;

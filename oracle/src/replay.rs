@@ -180,7 +180,7 @@ fn by_rust(case: &Case, column: &model::Column, by_model: &Answers) -> Answers {
 }
 
 /// A filter's state, from the Rust's own Debug text.
-fn mode(text: &str) -> Mode {
+pub fn mode(text: &str) -> Mode {
     let value = || text.rsplit_once("value: ").and_then(|(_, v)| v.split(' ').next()?.parse().ok()).expect("a bound's value");
     match text {
         "Before" => Mode::Before,

@@ -1,5 +1,7 @@
 //! `corpus FILE [--cases N] [--seed S]`: writes cases of every kind, each answer by the model, and `both` where the Rust gave the same to every call
 //! that is not refused. A difference ends it.
+//!
+//! `corpus --rattle DIR [--cases N] [--seed S]`: writes a sample of the Rust's answers as the Rattle program DIR (crates/replayed).
 use oracle::calls::*;
 use oracle::compare::{self, Bench, Tally, alone, by_hand, sequence};
 use oracle::random::{self, Dice};
@@ -9,6 +11,13 @@ use std::io::Write;
 fn main() {
     let words: Vec<String> = std::env::args().skip(1).collect();
     let option = |name: &str| words.iter().position(|w| w == name).and_then(|i| words.get(i + 1)).and_then(|v| v.parse::<u64>().ok());
+    if let Some(at) = words.iter().position(|w| w == "--rattle") {
+        let Some(folder) = words.get(at + 1) else {
+            eprintln!("corpus --rattle DIR [--cases N] [--seed S]");
+            std::process::exit(2);
+        };
+        return as_rattle(folder, option("--cases").unwrap_or(24), option("--seed").unwrap_or(1));
+    }
     let Some(file) = words.first().filter(|w| !w.starts_with("--")) else {
         eprintln!("corpus FILE [--cases N] [--seed S]");
         std::process::exit(2);
@@ -34,6 +43,24 @@ fn main() {
     }
     out.flush().expect("the file can be written");
     println!("{cases} cases, {} calls compared", tally.calls);
+}
+
+#[cfg(rust_text)]
+fn as_rattle(folder: &str, cases: u64, seed: u64) {
+    compare::quiet_panics();
+    let made_by = format!("corpus --rattle crates/replayed --cases {cases} --seed {seed}");
+    let (files, calls) = oracle::rattle::sample(cases as usize, seed, &made_by);
+    for (name, text) in files {
+        let path = std::path::Path::new(folder).join(name);
+        std::fs::write(&path, text).unwrap_or_else(|e| panic!("{}: {e}", path.display()));
+    }
+    println!("{cases} cases, {calls} calls");
+}
+
+#[cfg(not(rust_text))]
+fn as_rattle(_: &str, _: u64, _: u64) {
+    eprintln!("the Rust's text is not there, and the sample is of its answers");
+    std::process::exit(2);
 }
 
 /// One case as text.
