@@ -59,7 +59,7 @@ fn tree(out: &Path) -> String {
     let file = |m: &str| {
         assert!(MODULES.contains(&m));
         let path = out.join(format!("{m}.rs"));
-        format!("#[path = {path:?}] #[allow(dead_code, unused_imports)] pub(crate) mod {m};")
+        format!("#[path = {path:?}] #[allow(dead_code, unused_imports, clippy::all)] pub(crate) mod {m};")
     };
     format!(
         "pub(crate) mod columnar {{

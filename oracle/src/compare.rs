@@ -342,7 +342,7 @@ pub fn alone(bench: &mut Bench, call: &Call, tally: &mut Tally) -> Said {
     tally.calls += 1;
     tally.sequences += 1;
     tally.refused += u64::from(matches!(said, Said::Refused(_)));
-    if port::PRESENT {
+    if port::has(call) {
         let (runs, desk) = (bench.column.runs, &mut bench.desk);
         let got = caught(|| port::Session::over(m.scan).call(runs, call, desk));
         match got {
@@ -374,8 +374,9 @@ pub fn rust_alone(bench: &mut Bench, call: &Call, said: &Said) -> Option<Result<
     let column = bench.rust.as_ref()?;
     match call {
         Call::Check => Some(caught(|| {
-            assert!(column.is_empty() == (column.len() == 0), "is_empty");
-            Said::Length(column.len())
+            let length = column.len();
+            assert!(column.is_empty() == (length == 0), "is_empty");
+            Said::Length(length)
         })),
         Call::Place(i) => Some(caught(|| {
             let (run, offset) = column.place(*i);

@@ -183,7 +183,7 @@ fn bytes(word: &str) -> Parsed<Vec<u8>> {
     if word == "-" {
         return Ok(Vec::new());
     }
-    if !word.is_ascii() || word.len() % 2 != 0 {
+    if !word.is_ascii() || !word.len().is_multiple_of(2) {
         return Err(format!("'{word}' is no row of bytes"));
     }
     (0..word.len() / 2).map(|i| u8::from_str_radix(&word[2 * i..2 * i + 2], 16).map_err(|e| e.to_string())).collect()

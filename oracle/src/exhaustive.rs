@@ -23,8 +23,8 @@ pub const QUICK: [Level; 3] = [
     Level { lengths: 2, steps: &[-1, 0, 1, 3], gaps: &[-1, 1, 2], runs: 2, depth: 3, every: 3 },
 ];
 pub const LONG: [Level; 3] = [
-    Level { lengths: 3, steps: &[-2, -1, 0, 1, 2], gaps: &[-2, -1, 0, 1, 2, 4], runs: 2, depth: 4, every: 2 },
-    Level { lengths: 3, steps: &[-2, -1, 0, 1, 2], gaps: &[-1, 0, 1, 3], runs: 3, depth: 3, every: 3 },
+    Level { lengths: 3, steps: &[-2, -1, 0, 1, 2], gaps: &[-2, -1, 0, 1, 2, 4], runs: 2, depth: 4, every: 5 },
+    Level { lengths: 3, steps: &[-2, -1, 0, 1, 2], gaps: &[-1, 0, 1, 3], runs: 3, depth: 3, every: 41 },
     Level { lengths: 2, steps: &[-1, 0, 1, 3], gaps: &[-1, 1, 2], runs: 3, depth: 3, every: 5 },
 ];
 
@@ -112,6 +112,61 @@ fn scans_by_hand(bench: &mut Bench, length: u64, tally: &mut Tally) {
         for start in [0, 1, length, u64::MAX] {
             for state in [State::Fresh, State::Ended, State::At(0), State::At(1), State::At(length), State::At(u64::MAX)] {
                 by_hand(bench, Scan { start, end, state }, &calls, tally);
+            }
+        }
+    }
+}
+
+/// Starts from one edge of i64 to the other.
+const FAR: [i64; 8] = [i64::MIN, i64::MIN + 2, -3, -1, 0, 2, i64::MAX - 6, i64::MAX - 1];
+
+/// Columns whose starts lie as far apart as i64 goes: where the Rust's subtraction overflows, and where it just does not.
+pub fn far_columns(every: usize) -> Vec<Runs> {
+    let mut found: Vec<Vec<(i64, i16, u64)>> = vec![vec![]];
+    for start in FAR {
+        let mut more = Vec::new();
+        for runs in found.iter().filter(|r| r.len() < 3) {
+            for step in [i16::MIN, -1, 0, 1, 3] {
+                for length in [1, 2] {
+                    let mut longer = runs.clone();
+                    longer.push((start, step, length));
+                    more.push(longer);
+                }
+            }
+        }
+        found.extend(more);
+    }
+    // All of up to two runs, and some of three.
+    let kept = found.iter().enumerate().filter(|(i, runs)| runs.len() < 3 || i % every == 0);
+    kept.map(|(_, runs)| Runs::of(runs)).filter(|runs| model::Column::new(runs).check().is_ok()).collect()
+}
+
+/// Seeks around every distance that an i64 just holds, from every state, through the scan and through a filter's lower bound.
+pub fn far_seeks(runs: &Runs, tally: &mut Tally) {
+    let column = model::Column::new(runs);
+    let length = column.check().expect("only sound ones are kept");
+    let mut bench = Bench::new(&column, &[]);
+    let mut targets = vec![i64::MIN, -1, i64::MAX];
+    for start in &runs.starts {
+        let edge = i128::from(*start) + i128::from(i64::MAX);
+        targets.extend([-1, 0, 1].iter().filter_map(|d| i64::try_from(edge + d).ok()));
+    }
+    targets.sort_unstable();
+    targets.dedup();
+    let mut alphabet = vec![Call::Next];
+    alphabet.extend(targets.iter().copied().map(Call::Seek));
+    for end in 1..=length {
+        for start in (0..end).filter(|&s| column.rises(s, end)) {
+            tree(&mut bench, (start, end), &[], &alphabet, 2, tally);
+            for &value in &targets {
+                let lower = vec![Bound { value, exclusive: value % 2 == 0 }];
+                let before = [Call::FilterNew(lower, vec![])];
+                let none = Lists::default();
+                let calls = [Call::FilterNext(none.clone()), Call::FilterSeek(-1, none.clone()), Call::FilterSeek(i64::MAX, none)];
+                tree(&mut bench, (start, end), &before, &calls, 2, tally);
+            }
+            if tally.full() {
+                return;
             }
         }
     }

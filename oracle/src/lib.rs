@@ -70,4 +70,7 @@ pub fn announce() {
         (true, false) => println!("the port is not built in (feature `port`): the Rust and the model are compared"),
         (false, _) => println!("the Rust's text is not there (LOFTSPLICE_RUST_SOURCE): only the model and the port are compared"),
     }
+    if port::PRESENT && !cfg!(feature = "added") {
+        println!("the port plays without the batch listing and the stored record (feature `added`)");
+    }
 }

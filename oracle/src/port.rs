@@ -5,6 +5,11 @@ use loftsplice::raw;
 
 pub const PRESENT: bool = true;
 
+/// Whether the archive has this call (feature `added`: the batch listing and the stored record).
+pub fn has(call: &Call) -> bool {
+    cfg!(feature = "added") || !matches!(call, Call::List(_) | Call::Read(..) | Call::Write(_))
+}
+
 /// A scan, or the filter that holds it.
 #[derive(Clone, Copy, Debug)]
 pub struct Session {
@@ -165,7 +170,10 @@ impl Session {
                 let d = raw::diff_step(*previous, *current);
                 if d.found == 1 { Said::Value(i64::from(d.step)) } else { Said::None }
             }
+            #[cfg(feature = "added")]
             Call::List(..) | Call::Read(..) | Call::Write(..) => added(runs, call, desk),
+            #[cfg(not(feature = "added"))]
+            Call::List(..) | Call::Read(..) | Call::Write(..) => unreachable!("`has` is asked first"),
         }
     }
 
@@ -225,6 +233,7 @@ fn done(said: Said) -> Said {
 }
 
 /// The calls that the port adds, each with its outputs filled beforehand; places beyond the answer, and all after a refusal, must hold that still.
+#[cfg(feature = "added")]
 fn added(runs: &Runs, call: &Call, desk: &mut Desk) -> Said {
     let (starts, ends, steps) = (&runs.starts[..], &runs.ends[..], &runs.steps[..]);
     match call {
@@ -268,6 +277,7 @@ fn added(runs: &Runs, call: &Call, desk: &mut Desk) -> Said {
     }
 }
 
+#[cfg(feature = "added")]
 fn untouched<T: PartialEq + std::fmt::Debug>(places: &[T], held: T) {
     if let Some(at) = places.iter().position(|p| *p != held) {
         panic!("a place beyond the answer was written: {at} from its end holds {:?}", places[at]);

@@ -4,6 +4,10 @@ use crate::model::Sieve;
 
 pub const PRESENT: bool = false;
 
+pub fn has(_: &Call) -> bool {
+    false
+}
+
 #[derive(Clone, Copy, Debug)]
 pub struct Session;
 

@@ -119,6 +119,9 @@ fn by_port(case: &Case, column: &model::Column, raw: bool) -> Answers {
             set = *scan;
             return None;
         }
+        if !port::has(&line.call) {
+            return None;
+        }
         if raw {
             session = port::Session::over(set);
             if line.call.is_filter() {

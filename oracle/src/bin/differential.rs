@@ -1,4 +1,5 @@
 //! `differential quick|long [--seconds N] [--seed S]`: the Rust, the model and the port, compared call by call. Exit status 0 exactly if nothing differs.
+use oracle::calls::Runs;
 use oracle::compare::{Tally, quiet_panics};
 use oracle::random::Dice;
 use oracle::{exhaustive, port, random, rust};
@@ -28,8 +29,7 @@ fn main() {
     // A short random run first: it meets most of what can differ within a second.
     randomly(&mut tally, Duration::from_secs(2), seed, begun);
     let levels = if long { exhaustive::LONG } else { exhaustive::QUICK };
-    everything(&mut tally, levels);
-    say("exhaustive", &tally, begun);
+    everything(&mut tally, levels, if long { 3 } else { 29 }, begun);
     randomly(&mut tally, seconds.saturating_sub(begun.elapsed()).max(Duration::from_secs(5)), seed.wrapping_add(1), begun);
     say("with random", &tally, begun);
     if let Some(first) = tally.first {
@@ -39,22 +39,34 @@ fn main() {
     println!("no difference");
 }
 
-fn everything(tally: &mut Tally, levels: [exhaustive::Level; 3]) {
-    for level in [levels[0], levels[1]] {
-        for runs in exhaustive::columns(level) {
+/// Everything small, in four parts; says after each part, and each minute, how far it is.
+fn everything(tally: &mut Tally, levels: [exhaustive::Level; 3], far: usize, begun: Instant) {
+    let part = |name: &str, columns: Vec<Runs>, play: &dyn Fn(&Runs, &mut Tally), tally: &mut Tally| {
+        let mut told = Instant::now();
+        for (i, runs) in columns.iter().enumerate() {
             if tally.full() {
                 return;
             }
-            exhaustive::scans(&runs, level.depth, tally);
+            play(runs, tally);
+            if told.elapsed() > Duration::from_secs(60) {
+                say(&format!("{name}, {i} of {} columns", columns.len()), tally, begun);
+                told = Instant::now();
+            }
         }
+        say(&format!("{name}, all {} columns", columns.len()), tally, begun);
+    };
+    part("far seeks", exhaustive::far_columns(far), &exhaustive::far_seeks, tally);
+    for level in [levels[0], levels[1]] {
+        let name = format!("scans, up to {} runs, {} calls deep", level.runs, level.depth);
+        part(&name, exhaustive::columns(level), &|runs, tally| exhaustive::scans(runs, level.depth, tally), tally);
     }
-    for runs in exhaustive::columns(levels[2]) {
-        if tally.full() {
-            return;
-        }
-        exhaustive::filters(&runs, levels[2].depth, tally);
-        exhaustive::listings(&runs, tally);
-    }
+    let level = levels[2];
+    let name = format!("filters and listings, up to {} runs, {} calls deep", level.runs, level.depth);
+    let play = |runs: &Runs, tally: &mut Tally| {
+        exhaustive::filters(runs, level.depth, tally);
+        exhaustive::listings(runs, tally);
+    };
+    part(&name, exhaustive::columns(level), &play, tally);
 }
 
 fn randomly(tally: &mut Tally, time: Duration, seed: u64, begun: Instant) {
