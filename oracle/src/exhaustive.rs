@@ -23,9 +23,9 @@ pub const QUICK: [Level; 3] = [
     Level { lengths: 2, steps: &[-1, 0, 1, 3], gaps: &[-1, 1, 2], runs: 2, depth: 3, every: 3 },
 ];
 pub const LONG: [Level; 3] = [
-    Level { lengths: 3, steps: &[-2, -1, 0, 1, 2], gaps: &[-2, -1, 0, 1, 2, 4], runs: 2, depth: 4, every: 5 },
-    Level { lengths: 3, steps: &[-2, -1, 0, 1, 2], gaps: &[-1, 0, 1, 3], runs: 3, depth: 3, every: 41 },
-    Level { lengths: 2, steps: &[-1, 0, 1, 3], gaps: &[-1, 1, 2], runs: 3, depth: 3, every: 5 },
+    Level { lengths: 3, steps: &[-2, -1, 0, 1, 2], gaps: &[-2, -1, 0, 1, 2, 4], runs: 2, depth: 4, every: 1 },
+    Level { lengths: 3, steps: &[-2, -1, 0, 1, 2], gaps: &[-1, 0, 1, 3], runs: 3, depth: 3, every: 9 },
+    Level { lengths: 2, steps: &[-1, 0, 1, 3], gaps: &[-1, 1, 2], runs: 3, depth: 3, every: 13 },
 ];
 
 /// Every column of the level, from no runs up.

@@ -70,7 +70,10 @@ pub fn announce() {
         (true, false) => println!("the port is not built in (feature `port`): the Rust and the model are compared"),
         (false, _) => println!("the Rust's text is not there (LOFTSPLICE_RUST_SOURCE): only the model and the port are compared"),
     }
-    if port::PRESENT && !cfg!(feature = "added") {
-        println!("the port plays without the batch listing and the stored record (feature `added`)");
+    if port::PRESENT && !cfg!(feature = "listing") {
+        println!("the port plays without its batch listing (feature `listing`)");
+    }
+    if port::PRESENT && !cfg!(feature = "record") {
+        println!("the port plays without its stored record (feature `record`)");
     }
 }

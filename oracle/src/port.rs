@@ -5,9 +5,13 @@ use loftsplice::raw;
 
 pub const PRESENT: bool = true;
 
-/// Whether the archive has this call (feature `added`: the batch listing and the stored record).
+/// Whether the archive has this call (features `listing` and `record`).
 pub fn has(call: &Call) -> bool {
-    cfg!(feature = "added") || !matches!(call, Call::List(_) | Call::Read(..) | Call::Write(_))
+    match call {
+        Call::List(_) => cfg!(feature = "listing"),
+        Call::Read(..) | Call::Write(_) => cfg!(feature = "record"),
+        _ => true,
+    }
 }
 
 /// A scan, or the filter that holds it.
@@ -170,10 +174,14 @@ impl Session {
                 let d = raw::diff_step(*previous, *current);
                 if d.found == 1 { Said::Value(i64::from(d.step)) } else { Said::None }
             }
-            #[cfg(feature = "added")]
-            Call::List(..) | Call::Read(..) | Call::Write(..) => added(runs, call, desk),
-            #[cfg(not(feature = "added"))]
-            Call::List(..) | Call::Read(..) | Call::Write(..) => unreachable!("`has` is asked first"),
+            #[cfg(feature = "listing")]
+            Call::List(l) => listed(runs, l, desk),
+            #[cfg(feature = "record")]
+            Call::Read(bytes, places) => read(bytes, *places),
+            #[cfg(feature = "record")]
+            Call::Write(places) => written(runs, *places),
+            #[cfg(not(all(feature = "listing", feature = "record")))]
+            _ => unreachable!("`has` is asked first"),
         }
     }
 
@@ -232,52 +240,51 @@ fn done(said: Said) -> Said {
     }
 }
 
-/// The calls that the port adds, each with its outputs filled beforehand; places beyond the answer, and all after a refusal, must hold that still.
-#[cfg(feature = "added")]
-fn added(runs: &Runs, call: &Call, desk: &mut Desk) -> Said {
-    let (starts, ends, steps) = (&runs.starts[..], &runs.ends[..], &runs.steps[..]);
-    match call {
-        Call::List(l) => {
-            desk.constants(0, &l.lower);
-            desk.constants(1, &l.upper);
-            let mut out = vec![OUT; l.room];
-            let mut counts = vec![COUNT; l.counts];
-            let (values, kinds) = (&desk.numbers, &desk.kinds);
-            let answer = raw::list(
-                starts, ends, steps, &l.from, &l.to, &values[0], &kinds[0], &values[1], &kinds[1], &mut out, &mut counts,
-            );
-            let (filled, windows) = if answer.refusal == 0 { (answer.sum as usize, l.from.len()) } else { (0, 0) };
-            untouched(&out[filled..], OUT);
-            untouched(&counts[windows..], COUNT);
-            match answer.refusal {
-                0 => Said::Listed { sum: answer.sum, counts: counts[..windows].to_vec(), out: out[..filled].to_vec() },
-                n => Said::Refused(n),
-            }
-        }
-        Call::Read(bytes, places) => {
-            let mut starts = vec![i64::from(PLACE); places[0]];
-            let mut ends = vec![PLACE as u64; places[1]];
-            let mut steps = vec![PLACE; places[2]];
-            let answer = raw::read_record(bytes, &mut starts, &mut ends, &mut steps);
-            let n = if answer.refusal == 0 { answer.runs as usize } else { 0 };
-            untouched(&starts[n..], i64::from(PLACE));
-            untouched(&ends[n..], PLACE as u64);
-            untouched(&steps[n..], PLACE);
-            let runs = Runs { starts: starts[..n].to_vec(), ends: ends[..n].to_vec(), steps: steps[..n].to_vec() };
-            if answer.refusal == 0 { Said::Read { used: answer.used, runs } } else { Said::Refused(answer.refusal) }
-        }
-        Call::Write(places) => {
-            let mut out = vec![BYTE; *places];
-            let answer = raw::write_record(starts, ends, steps, &mut out);
-            let n = if answer.refusal == 0 { answer.bytes as usize } else { 0 };
-            untouched(&out[n..], BYTE);
-            if answer.refusal == 0 { Said::Written(out[..n].to_vec()) } else { Said::Refused(answer.refusal) }
-        }
-        _ => unreachable!("no added call"),
+// The calls that the port adds, each with its outputs filled beforehand; places beyond the answer, and all after a refusal, must hold that still.
+
+#[cfg(feature = "listing")]
+fn listed(runs: &Runs, l: &Listing, desk: &mut Desk) -> Said {
+    desk.constants(0, &l.lower);
+    desk.constants(1, &l.upper);
+    let mut out = vec![OUT; l.room];
+    let mut counts = vec![COUNT; l.counts];
+    let (values, kinds) = (&desk.numbers, &desk.kinds);
+    let answer = raw::list(
+        &runs.starts, &runs.ends, &runs.steps, &l.from, &l.to, &values[0], &kinds[0], &values[1], &kinds[1], &mut out, &mut counts,
+    );
+    let (filled, windows) = if answer.refusal == 0 { (answer.sum as usize, l.from.len()) } else { (0, 0) };
+    untouched(&out[filled..], OUT);
+    untouched(&counts[windows..], COUNT);
+    match answer.refusal {
+        0 => Said::Listed { sum: answer.sum, counts: counts[..windows].to_vec(), out: out[..filled].to_vec() },
+        n => Said::Refused(n),
     }
 }
 
-#[cfg(feature = "added")]
+#[cfg(feature = "record")]
+fn read(bytes: &[u8], places: [usize; 3]) -> Said {
+    let mut starts = vec![i64::from(PLACE); places[0]];
+    let mut ends = vec![PLACE as u64; places[1]];
+    let mut steps = vec![PLACE; places[2]];
+    let answer = raw::read_record(bytes, &mut starts, &mut ends, &mut steps);
+    let n = if answer.refusal == 0 { answer.runs as usize } else { 0 };
+    untouched(&starts[n..], i64::from(PLACE));
+    untouched(&ends[n..], PLACE as u64);
+    untouched(&steps[n..], PLACE);
+    let runs = Runs { starts: starts[..n].to_vec(), ends: ends[..n].to_vec(), steps: steps[..n].to_vec() };
+    if answer.refusal == 0 { Said::Read { used: answer.used, runs } } else { Said::Refused(answer.refusal) }
+}
+
+#[cfg(feature = "record")]
+fn written(runs: &Runs, places: usize) -> Said {
+    let mut out = vec![BYTE; places];
+    let answer = raw::write_record(&runs.starts, &runs.ends, &runs.steps, &mut out);
+    let n = if answer.refusal == 0 { answer.bytes as usize } else { 0 };
+    untouched(&out[n..], BYTE);
+    if answer.refusal == 0 { Said::Written(out[..n].to_vec()) } else { Said::Refused(answer.refusal) }
+}
+
+#[cfg(any(feature = "listing", feature = "record"))]
 fn untouched<T: PartialEq + std::fmt::Debug>(places: &[T], held: T) {
     if let Some(at) = places.iter().position(|p| *p != held) {
         panic!("a place beyond the answer was written: {at} from its end holds {:?}", places[at]);
