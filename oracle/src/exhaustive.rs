@@ -117,6 +117,29 @@ fn scans_by_hand(bench: &mut Bench, length: u64, tally: &mut Tally) {
     }
 }
 
+/// Lists at their limits, each by itself and in every state of a filter: 16 bounds pass and 17 are refused, 8 inputs pass and 9 are refused.
+pub fn limits(tally: &mut Tally) {
+    let runs = Runs::of(&[(10, 5, 4), (30, 0, 1), (31, -3, 1), (40, 100, 3)]);
+    let column = model::Column::new(&runs);
+    let mut bench = Bench::new(&column, &[15]);
+    for n in [15, 16, 17] {
+        let (named, given) = (vec![Bound { value: 0, exclusive: false }; n], vec![Bound { value: 15, exclusive: false }; n]);
+        for (lower, upper) in [(true, false), (false, true), (true, true)] {
+            for inputs in [7, 8, 9] {
+                let list = |there: bool| if there { named.clone() } else { vec![] };
+                let bounds = |there: bool| if there { given.clone() } else { vec![] };
+                let lists = Lists { lower: list(lower), upper: list(upper), inputs: vec![Some(15); inputs] };
+                let mut calls = vec![Call::New, Call::FilterNew(vec![], vec![]), Call::FilterNew(bounds(lower), bounds(upper))];
+                for target in [15, 300] {
+                    calls.extend([Call::FilterNext(lists.clone()), Call::FilterSeek(target, lists.clone())]);
+                }
+                calls.extend([Call::FilterReset, Call::FilterNext(Lists::default()), Call::FilterNext(lists.clone())]);
+                sequence(&mut bench, &calls, tally);
+            }
+        }
+    }
+}
+
 /// Starts from one edge of i64 to the other.
 const FAR: [i64; 8] = [i64::MIN, i64::MIN + 2, -3, -1, 0, 2, i64::MAX - 6, i64::MAX - 1];
 

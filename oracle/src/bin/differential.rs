@@ -55,6 +55,7 @@ fn everything(tally: &mut Tally, levels: [exhaustive::Level; 3], far: usize, beg
         }
         say(&format!("{name}, all {} columns", columns.len()), tally, begun);
     };
+    exhaustive::limits(tally);
     part("far seeks", exhaustive::far_columns(far), &exhaustive::far_seeks, tally);
     for level in [levels[0], levels[1]] {
         let name = format!("scans, up to {} runs, {} calls deep", level.runs, level.depth);
