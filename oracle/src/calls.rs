@@ -1,0 +1,125 @@
+//! Calls, answers and states, as document 01 speaks of them. What the three sides share is these words and nothing else.
+
+/// The three lent arrays, also bad ones.
+#[derive(Clone, Debug, Default, PartialEq, Eq)]
+pub struct Runs {
+    pub starts: Vec<i64>,
+    pub ends: Vec<u64>,
+    pub steps: Vec<i16>,
+}
+
+/// A bound, or a variable bound, whose number is an input's. The order of the derive is document 01's: by value, then inclusive before exclusive.
+#[derive(Clone, Copy, Debug, PartialEq, Eq, PartialOrd, Ord)]
+pub struct Bound<V> {
+    pub value: V,
+    pub exclusive: bool,
+}
+
+pub type Constant = Bound<i64>;
+pub type Variable = Bound<u64>;
+
+#[derive(Clone, Copy, Debug, PartialEq, Eq)]
+pub enum State {
+    Fresh,
+    At(u64),
+    Ended,
+}
+
+#[derive(Clone, Copy, Debug, PartialEq, Eq)]
+pub struct Scan {
+    pub start: u64,
+    pub end: u64,
+    pub state: State,
+}
+
+#[derive(Clone, Copy, Debug, PartialEq, Eq)]
+pub enum Mode {
+    Before,
+    Within(Option<Constant>),
+    After,
+}
+
+/// Variable bounds and the inputs' answers, handed over with a call.
+#[derive(Clone, Debug, Default, PartialEq, Eq)]
+pub struct Lists {
+    pub lower: Vec<Variable>,
+    pub upper: Vec<Variable>,
+    pub inputs: Vec<Option<i64>>,
+}
+
+/// A batch listing's windows and bounds, and the places of its outputs.
+#[derive(Clone, Debug, Default, PartialEq, Eq)]
+pub struct Listing {
+    pub from: Vec<u64>,
+    pub to: Vec<u64>,
+    pub lower: Vec<Constant>,
+    pub upper: Vec<Constant>,
+    pub room: usize,
+    pub counts: usize,
+}
+
+#[derive(Clone, Debug, PartialEq, Eq)]
+pub enum Call {
+    New,
+    Next,
+    Seek(i64),
+    Current,
+    Pos,
+    Reset,
+    Narrow(u64, u64),
+    FilterNew(Vec<Constant>, Vec<Constant>),
+    FilterNext(Lists),
+    FilterSeek(i64, Lists),
+    FilterCurrent,
+    FilterReset,
+    Check,
+    Place(u64),
+    Element(u64),
+    Diff(i64, i64),
+    Set(Scan),
+    List(Listing),
+    Read(Vec<u8>, [usize; 3]),
+    Write(usize),
+}
+
+/// What a call said. The three with arrays hold the answer's own places; the places beyond are looked at where the call is made (`Filled::whole`).
+#[derive(Clone, Debug, PartialEq, Eq)]
+pub enum Said {
+    None,
+    Value(i64),
+    Index(u64),
+    Ok,
+    Refused(u32),
+    Length(u64),
+    Place(u64, u64),
+    Listed { sum: u64, counts: Vec<u64>, out: Vec<i64> },
+    Read { used: u64, runs: Runs },
+    Written(Vec<u8>),
+}
+
+/// What the places of an output hold before a call.
+pub const OUT: i64 = -77;
+pub const COUNT: u64 = 99;
+pub const PLACE: i16 = 7;
+pub const BYTE: u8 = 0xAA;
+
+impl Runs {
+    /// A column from (start, step, length) a run.
+    pub fn of(runs: &[(i64, i16, u64)]) -> Runs {
+        let mut end = 0;
+        let mut made = Runs::default();
+        for &(start, step, length) in runs {
+            end += length;
+            made.starts.push(start);
+            made.ends.push(end);
+            made.steps.push(step);
+        }
+        made
+    }
+}
+
+impl Call {
+    pub fn is_filter(&self) -> bool {
+        matches!(self, Call::FilterNew(..) | Call::FilterNext(_) | Call::FilterSeek(..) | Call::FilterCurrent | Call::FilterReset)
+    }
+}

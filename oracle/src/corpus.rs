@@ -1,0 +1,337 @@
+//! The text format of call sequences and answers (document CORPUS): printing, and reading any file of that format.
+use crate::calls::*;
+use crate::model::Sieve;
+use std::fmt::{Display, Write};
+use std::str::FromStr;
+
+/// One case as a file has it.
+#[derive(Clone, Debug, PartialEq, Eq)]
+pub struct Case {
+    pub number: u64,
+    pub kind: String,
+    pub both: bool,
+    pub runs: Runs,
+    pub lines: Vec<Line>,
+}
+
+/// One call, the line of the file that it stands on, and what the file expects; `set` may stand without an answer.
+#[derive(Clone, Debug, PartialEq, Eq)]
+pub struct Line {
+    pub at: usize,
+    pub call: Call,
+    pub expected: Option<Expected>,
+}
+
+/// An answer, and the scan and filter after the call where the file has them.
+#[derive(Clone, Debug, PartialEq, Eq)]
+pub struct Expected {
+    pub said: Said,
+    pub scan: Option<Scan>,
+    pub mode: Option<Mode>,
+}
+
+// ---- printing
+
+pub fn list<T: Display>(items: impl IntoIterator<Item = T>) -> String {
+    let text: Vec<String> = items.into_iter().map(|i| i.to_string()).collect();
+    if text.is_empty() { "-".into() } else { text.join(",") }
+}
+
+fn hex(bytes: &[u8]) -> String {
+    if bytes.is_empty() { "-".into() } else { bytes.iter().map(|b| format!("{b:02X}")).collect() }
+}
+
+impl<V: Display> Display for Bound<V> {
+    fn fmt(&self, f: &mut std::fmt::Formatter<'_>) -> std::fmt::Result {
+        write!(f, "{}{}", if self.exclusive { 'x' } else { 'i' }, self.value)
+    }
+}
+
+impl Display for State {
+    fn fmt(&self, f: &mut std::fmt::Formatter<'_>) -> std::fmt::Result {
+        match self {
+            State::Fresh => f.write_str("F"),
+            State::At(i) => write!(f, "{i}"),
+            State::Ended => f.write_str("E"),
+        }
+    }
+}
+
+impl Display for Lists {
+    fn fmt(&self, f: &mut std::fmt::Formatter<'_>) -> std::fmt::Result {
+        let inputs = self.inputs.iter().map(|i| i.map_or("?".to_string(), |v| v.to_string()));
+        write!(f, "{} {} {}", list(&self.lower), list(&self.upper), list(inputs))
+    }
+}
+
+impl Display for Call {
+    fn fmt(&self, f: &mut std::fmt::Formatter<'_>) -> std::fmt::Result {
+        match self {
+            Call::New => f.write_str("new"),
+            Call::Next => f.write_str("next"),
+            Call::Seek(t) => write!(f, "seek {t}"),
+            Call::Current => f.write_str("current"),
+            Call::Pos => f.write_str("pos"),
+            Call::Reset => f.write_str("reset"),
+            Call::Narrow(s, e) => write!(f, "narrow {s} {e}"),
+            Call::FilterNew(l, u) => write!(f, "fnew {} {}", list(l), list(u)),
+            Call::FilterNext(l) => write!(f, "fnext {l}"),
+            Call::FilterSeek(t, l) => write!(f, "fseek {t} {l}"),
+            Call::FilterCurrent => f.write_str("fcurrent"),
+            Call::FilterReset => f.write_str("freset"),
+            Call::Check => f.write_str("check"),
+            Call::Place(i) => write!(f, "place {i}"),
+            Call::Element(i) => write!(f, "element {i}"),
+            Call::Diff(p, c) => write!(f, "diff {p} {c}"),
+            Call::Set(s) => write!(f, "set {} {} {}", s.start, s.end, s.state),
+            Call::List(l) => write!(
+                f,
+                "list {} {} {} {} {} {}",
+                list(&l.from),
+                list(&l.to),
+                list(&l.lower),
+                list(&l.upper),
+                l.room,
+                l.counts
+            ),
+            Call::Read(b, p) => write!(f, "read {} {} {} {}", hex(b), p[0], p[1], p[2]),
+            Call::Write(p) => write!(f, "write {p}"),
+        }
+    }
+}
+
+impl Display for Said {
+    fn fmt(&self, f: &mut std::fmt::Formatter<'_>) -> std::fmt::Result {
+        match self {
+            Said::None => f.write_str("none"),
+            Said::Value(v) => write!(f, "v {v}"),
+            Said::Index(i) => write!(f, "i {i}"),
+            Said::Ok => f.write_str("ok"),
+            Said::Refused(n) => write!(f, "r {n}"),
+            Said::Length(n) => write!(f, "length {n}"),
+            Said::Place(r, k) => write!(f, "p {r} {k}"),
+            Said::Listed { sum, counts, out } => write!(f, "sum {sum} counts {} out {}", list(counts), list(out)),
+            Said::Read { used, runs } => write!(
+                f,
+                "runs {} used {used} starts {} ends {} steps {}",
+                runs.starts.len(),
+                list(&runs.starts),
+                list(&runs.ends),
+                list(&runs.steps)
+            ),
+            Said::Written(b) => write!(f, "bytes {} {}", b.len(), hex(b)),
+        }
+    }
+}
+
+/// ` | <start> <end> <state>`, and the filter's mode where one is made.
+pub fn after(scan: &Scan, sieve: Option<&Sieve>) -> String {
+    let mut text = format!(" | {} {} {}", scan.start, scan.end, scan.state);
+    match sieve.map(|s| s.mode) {
+        None => {}
+        Some(Mode::Before) => text.push_str(" B"),
+        Some(Mode::After) => text.push_str(" A"),
+        Some(Mode::Within(None)) => text.push_str(" W -"),
+        Some(Mode::Within(Some(b))) => write!(text, " W {b}").unwrap(),
+    }
+    text
+}
+
+/// Whether an answer to this call is followed by the scan.
+pub fn has_state(call: &Call, said: &Said) -> bool {
+    match call {
+        Call::New => !matches!(said, Said::Refused(_)),
+        Call::Check | Call::Place(_) | Call::Element(_) | Call::Diff(..) => false,
+        Call::Set(_) | Call::List(_) | Call::Read(..) | Call::Write(_) => false,
+        _ => true,
+    }
+}
+
+/// The first lines of a case.
+pub fn head(number: u64, kind: &str, both: bool, runs: &Runs) -> String {
+    format!(
+        "case {number} {kind} {}\nstarts {}\nends {}\nsteps {}\n",
+        if both { "both" } else { "model" },
+        list(&runs.starts),
+        list(&runs.ends),
+        list(&runs.steps)
+    )
+}
+
+// ---- reading
+
+type Parsed<T> = Result<T, String>;
+
+fn number<T: FromStr>(word: &str) -> Parsed<T> {
+    word.parse().map_err(|_| format!("'{word}' is no number that fits here"))
+}
+
+fn items<T>(word: &str, item: impl Fn(&str) -> Parsed<T>) -> Parsed<Vec<T>> {
+    if word == "-" { Ok(Vec::new()) } else { word.split(',').map(item).collect() }
+}
+
+fn bound<V: FromStr>(word: &str) -> Parsed<Bound<V>> {
+    let exclusive = match word.as_bytes().first() {
+        Some(b'i') => false,
+        Some(b'x') => true,
+        _ => return Err(format!("'{word}' is no bound")),
+    };
+    Ok(Bound { value: number(&word[1..])?, exclusive })
+}
+
+fn bytes(word: &str) -> Parsed<Vec<u8>> {
+    if word == "-" {
+        return Ok(Vec::new());
+    }
+    if !word.is_ascii() || !word.len().is_multiple_of(2) {
+        return Err(format!("'{word}' is no row of bytes"));
+    }
+    (0..word.len() / 2).map(|i| u8::from_str_radix(&word[2 * i..2 * i + 2], 16).map_err(|e| e.to_string())).collect()
+}
+
+fn state(word: &str) -> Parsed<State> {
+    Ok(match word {
+        "F" => State::Fresh,
+        "E" => State::Ended,
+        index => State::At(number(index)?),
+    })
+}
+
+fn lists(words: &[&str]) -> Parsed<Lists> {
+    let input = |w: &str| if w == "?" { Ok(None) } else { number(w).map(Some) };
+    Ok(Lists { lower: items(words[0], bound)?, upper: items(words[1], bound)?, inputs: items(words[2], input)? })
+}
+
+pub fn call(text: &str) -> Parsed<Call> {
+    let mut words: Vec<&str> = text.split(' ').filter(|w| !w.is_empty()).collect();
+    // `read` of no bytes may stand with nothing in their place.
+    if words.first() == Some(&"read") && words.len() == 4 {
+        words.insert(1, "-");
+    }
+    Ok(match words[..] {
+        ["new"] => Call::New,
+        ["next"] => Call::Next,
+        ["seek", t] => Call::Seek(number(t)?),
+        ["current"] => Call::Current,
+        ["pos"] => Call::Pos,
+        ["reset"] => Call::Reset,
+        ["narrow", s, e] => Call::Narrow(number(s)?, number(e)?),
+        ["fnew", l, u] => Call::FilterNew(items(l, bound)?, items(u, bound)?),
+        ["fnext", l, u, i] => Call::FilterNext(lists(&[l, u, i])?),
+        ["fseek", t, l, u, i] => Call::FilterSeek(number(t)?, lists(&[l, u, i])?),
+        ["fcurrent"] => Call::FilterCurrent,
+        ["freset"] => Call::FilterReset,
+        ["check"] => Call::Check,
+        ["place", i] => Call::Place(number(i)?),
+        ["element", i] => Call::Element(number(i)?),
+        ["diff", p, c] => Call::Diff(number(p)?, number(c)?),
+        ["set", s, e, at] => Call::Set(Scan { start: number(s)?, end: number(e)?, state: state(at)? }),
+        ["list", from, to, l, u, room, counts] => Call::List(Listing {
+            from: items(from, number)?,
+            to: items(to, number)?,
+            lower: items(l, bound)?,
+            upper: items(u, bound)?,
+            room: number(room)?,
+            counts: number(counts)?,
+        }),
+        ["read", b, s, e, t] => Call::Read(bytes(b)?, [number(s)?, number(e)?, number(t)?]),
+        ["write", p] => Call::Write(number(p)?),
+        _ => return Err(format!("'{text}' is no call")),
+    })
+}
+
+fn said(text: &str) -> Parsed<Said> {
+    let words: Vec<&str> = text.split(' ').filter(|w| !w.is_empty()).collect();
+    Ok(match words[..] {
+        ["none"] => Said::None,
+        ["v", v] => Said::Value(number(v)?),
+        ["i", i] => Said::Index(number(i)?),
+        ["ok"] => Said::Ok,
+        ["r", n] => Said::Refused(number(n)?),
+        ["length", n] => Said::Length(number(n)?),
+        ["p", r, k] => Said::Place(number(r)?, number(k)?),
+        ["sum", n, "counts", c, "out", o] => {
+            Said::Listed { sum: number(n)?, counts: items(c, number)?, out: items(o, number)? }
+        }
+        ["runs", n, "used", used, "starts", s, "ends", e, "steps", t] => {
+            let runs = Runs { starts: items(s, number)?, ends: items(e, number)?, steps: items(t, number)? };
+            let count: usize = number(n)?;
+            if [runs.starts.len(), runs.ends.len(), runs.steps.len()] != [count; 3] {
+                return Err(format!("{count} runs are said, and lists of another length follow"));
+            }
+            Said::Read { used: number(used)?, runs }
+        }
+        ["bytes", n, b] => {
+            let b = bytes(b)?;
+            if b.len() != number::<usize>(n)? {
+                return Err(format!("{n} bytes are said, and {} follow", b.len()));
+            }
+            Said::Written(b)
+        }
+        _ => return Err(format!("'{text}' is no answer")),
+    })
+}
+
+pub fn expected(text: &str) -> Parsed<Expected> {
+    let Some((answer, rest)) = text.split_once(" | ") else {
+        return Ok(Expected { said: said(text)?, scan: None, mode: None });
+    };
+    let words: Vec<&str> = rest.split(' ').filter(|w| !w.is_empty()).collect();
+    let (&[start, end, at], mode) = words.split_first_chunk::<3>().ok_or_else(|| format!("'{rest}' is no scan"))?;
+    let mode = match mode {
+        [] => None,
+        ["B"] => Some(Mode::Before),
+        ["A"] => Some(Mode::After),
+        ["W", "-"] => Some(Mode::Within(None)),
+        ["W", b] => Some(Mode::Within(Some(bound(b)?))),
+        _ => return Err(format!("'{rest}' has no filter's state at its end")),
+    };
+    let scan = Scan { start: number(start)?, end: number(end)?, state: state(at)? };
+    Ok(Expected { said: said(answer)?, scan: Some(scan), mode })
+}
+
+/// The cases of a file, in order. An error names its line.
+pub fn cases(text: &str) -> Parsed<Vec<Case>> {
+    let mut found = Vec::new();
+    let mut open: Option<Case> = None;
+    for (at, line) in text.lines().enumerate().map(|(i, l)| (i + 1, l.trim_end())) {
+        if line.is_empty() || line.starts_with('#') {
+            continue;
+        }
+        let here = |e: String| format!("line {at}: {e}");
+        match (&mut open, line.split_once(' ').unwrap_or((line, ""))) {
+            (None, ("case", rest)) => open = Some(case(rest).map_err(here)?),
+            (None, _) => return Err(here(format!("'{line}' stands outside a case"))),
+            (Some(_), ("end", "")) => found.extend(open.take()),
+            (Some(c), ("starts", l)) => c.runs.starts = items(l, number).map_err(here)?,
+            (Some(c), ("ends", l)) => c.runs.ends = items(l, number).map_err(here)?,
+            (Some(c), ("steps", l)) => c.runs.steps = items(l, number).map_err(here)?,
+            (Some(c), _) => {
+                let (words, answer) = line.split_once(" -> ").map_or((line, None), |(w, a)| (w, Some(a)));
+                let call = call(words).map_err(here)?;
+                let expected = answer.map(expected).transpose().map_err(here)?;
+                if expected.is_none() && !matches!(call, Call::Set(_)) {
+                    return Err(here(format!("'{line}' has no answer")));
+                }
+                c.lines.push(Line { at, call, expected });
+            }
+        }
+    }
+    if open.is_some() { Err("the file ends inside a case".into()) } else { Ok(found) }
+}
+
+fn case(rest: &str) -> Parsed<Case> {
+    let [n, kind, by] = rest.split(' ').collect::<Vec<_>>()[..] else {
+        return Err(format!("'case {rest}' is not number, kind and by"));
+    };
+    let kinds = ["scan", "filter", "mixed", "far", "column", "raw", "list", "read", "write"];
+    if !kinds.contains(&kind) {
+        return Err(format!("'{kind}' is no kind of case"));
+    }
+    let both = match by {
+        "both" => true,
+        "model" => false,
+        _ => return Err(format!("'{by}' is neither both nor model")),
+    };
+    Ok(Case { number: number(n)?, kind: kind.into(), both, runs: Runs::default(), lines: Vec::new() })
+}

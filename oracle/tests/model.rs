@@ -1,0 +1,96 @@
+//! The model's shortcuts by runs against document 01's sentences taken element by element.
+use oracle::calls::*;
+use oracle::exhaustive::{Level, columns};
+use oracle::model::{Column, Session};
+
+fn small() -> Vec<Runs> {
+    columns(Level { lengths: 3, steps: &[-2, 0, 1, 3], gaps: &[-1, 0, 1, 4], runs: 2, depth: 0, every: 1 })
+}
+
+/// "A window rises if each element is above the one before", and the first index whose element is not below a target.
+#[test]
+fn rising_and_first() {
+    let mut tried = 0;
+    for runs in small() {
+        let c = Column::new(&runs);
+        let length = c.check().unwrap();
+        for end in 0..=length {
+            for start in 0..=length + 1 {
+                let plain = (start..end).skip(1).all(|i| c.at(i - 1) < c.at(i));
+                assert_eq!(c.rises(start, end), plain, "{runs:?} {start}..{end}");
+                for target in -6..30 {
+                    if plain {
+                        let first = (start..end).find(|&i| c.at(i) >= target);
+                        assert_eq!(c.first_from(start, end, target), first, "{runs:?} {start}..{end} {target}");
+                        tried += 1;
+                    }
+                }
+            }
+        }
+    }
+    assert!(tried > 100_000, "{tried}");
+}
+
+/// "the values that a fresh scan and a new filter give", by making that scan and filter.
+#[test]
+fn listing_is_the_filter() {
+    let mut tried = 0;
+    for runs in small().into_iter().step_by(7) {
+        let c = Column::new(&runs);
+        let length = c.check().unwrap();
+        let bound = |v: i64| [vec![], vec![Bound { value: v, exclusive: false }], vec![Bound { value: v, exclusive: true }]];
+        for (start, end) in (0..=length).flat_map(|e| (0..=e).map(move |s| (s, e))).filter(|&(s, e)| c.rises(s, e)) {
+            for lower in (3..9).flat_map(bound) {
+                for upper in (4..12).flat_map(bound) {
+                    let l = Listing { from: vec![start], to: vec![end], lower: lower.clone(), upper: upper.clone(), room: 50, counts: 1 };
+                    let mut s = Session::new(&c);
+                    s.call(&Call::Narrow(start, end));
+                    s.call(&Call::FilterNew(lower.clone(), upper));
+                    let mut out = vec![];
+                    while let Said::Value(v) = s.call(&Call::FilterNext(Lists::default())) {
+                        out.push(v);
+                    }
+                    let sum = out.len() as u64;
+                    assert_eq!(Session::new(&c).call(&Call::List(l)), Said::Listed { sum, counts: vec![sum], out });
+                    tried += 1;
+                }
+            }
+        }
+    }
+    assert!(tried > 10_000, "{tried}");
+}
+
+/// The order of refusals: an input that could be refused by several numbers is refused by the one that document 01 tries first.
+#[test]
+fn order_of_refusals() {
+    let said = |runs: &Runs, call: Call| Session::new(&Column::new(runs)).call(&call);
+    let d = Runs::of(&[(10, -5, 2), (6, 1, 3)]);
+    let long = |n| vec![Bound { value: 1, exclusive: false }; n];
+    let list = |from: Vec<u64>, to: Vec<u64>, n: usize, room| Call::List(Listing { from, to, lower: long(n), upper: vec![], room, counts: 0 });
+    // 8 before 5 before 7 before 10
+    assert_eq!(said(&d, list(vec![0, 0], vec![9], 1, 0)), Said::Refused(8));
+    assert_eq!(said(&d, list(vec![0, 0], vec![5, 9], 17, 0)), Said::Refused(8));
+    assert_eq!(said(&d, list(vec![0, 0], vec![5, 9], 16, 0)), Said::Refused(5));
+    assert_eq!(said(&d, list(vec![1, 0], vec![5, 5], 1, 0)), Said::Refused(7));
+    assert_eq!(said(&d, list(vec![1, 2], vec![5, 5], 1, 0)), Said::Refused(10));
+    // 1 before 2 before 3, each over the whole input
+    let bad = Runs { starts: vec![i64::MAX, 0], ends: vec![5, 5], steps: vec![1] };
+    assert_eq!(said(&bad, Call::Check), Said::Refused(1));
+    assert_eq!(said(&Runs { steps: vec![1, 1], ..bad.clone() }, Call::Check), Said::Refused(2));
+    assert_eq!(said(&Runs { ends: vec![5, 6], steps: vec![1, 1], ..bad }, Call::Check), Said::Refused(3));
+    // a record: 11, 13, 11, 12, 13, 10, 2, 3
+    let read = |bytes: &[u8], n| said(&d, Call::Read(bytes.to_vec(), [n; 3]));
+    assert_eq!(read(&[1, 0, 0], 0), Said::Refused(11));
+    assert_eq!(read(&[1, 0, 0, 0], 0), Said::Refused(13));
+    assert_eq!(read(&[3, 0, 0, 0, 2, 0], 0), Said::Refused(11));
+    assert_eq!(read(&[3, 0, 0, 0, 2, 0, 0], 0), Said::Refused(12));
+    assert_eq!(read(&[3, 0, 0, 0, 1, 0, 0], 0), Said::Refused(13));
+    let mut run = vec![16, 0, 0, 0, 1, 0, 255, 255, 255, 255, 255, 255, 255, 127, 1, 0, 0, 0, 0, 0];
+    assert_eq!(read(&run, 0), Said::Refused(10));
+    assert_eq!(read(&run, 1), Said::Refused(2));
+    run[16] = 2;
+    assert_eq!(read(&run, 1), Said::Refused(3));
+    run[16] = 1;
+    assert!(matches!(read(&run, 1), Said::Read { used: 20, .. }));
+    assert_eq!(read(&[2, 0, 0, 0, 1, 0, 77], 0), Said::Read { used: 6, runs: Runs::default() });
+}
