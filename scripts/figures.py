@@ -1,0 +1,38 @@
+"""The table of docs/CHANGES.md: what each crate holds. Blank lines are counted nowhere; comments, imports and contracts are not code; comments and
+imports are neither definitions nor laws."""
+import pathlib
+import re
+
+ROOT = pathlib.Path(__file__).resolve().parent.parent
+CONTRACT = ('requires', 'ensures', 'ghost use', 'use ', 'pub mod ')
+
+
+def lines(files, drop=()):
+    return [line for f in files for line in f.read_text().splitlines()
+            if line.strip() and not line.strip().startswith(('//', '--', '#') + tuple(drop))]
+
+
+def row(crate):
+    src = sorted((crate / 'src').glob('*.rt'))
+    specs = [f for f in sorted((crate / 'specs').glob('*.antt')) if f.name != 'Lib.antt']
+    laws = [f for f in sorted((crate / 'proofs').glob('*.antt')) if f.name != 'Lib.antt']
+    proofs = sorted((crate / 'proofs').rglob('Proof.antt'))
+    code = lines(src, CONTRACT)
+    functions = sum(1 for line in code if re.match(r'\s*(pub |pub\(crate\) |pub extern "C" )?fn ', line))
+    edits = len(list((crate / 'must-fail').glob('*.edit')))
+    return [len(code), functions, len(lines(specs, ('use ',))), len(lines(laws, ('use ',))), len(proofs), len(lines(proofs)), edits]
+
+
+def main():
+    names = [line.split(':')[0] for line in (ROOT / 'crates.txt').read_text().splitlines() if line and not line.startswith('#')]
+    print('| Crate | Lines of code | Functions | Lines of definitions | Lines of laws | Function proofs | Their lines | Must-fail edits |')
+    print('|---|---|---|---|---|---|---|---|')
+    total = [0] * 7
+    for name in names:
+        figures = row(ROOT / 'crates' / name)
+        total = [a + b for a, b in zip(total, figures)]
+        print('| ' + ' | '.join([name] + [str(n) for n in figures]) + ' |')
+    print('| all | ' + ' | '.join(str(n) for n in total) + ' |')
+
+
+main()
