@@ -148,6 +148,19 @@ typedef struct loftsplice_listed {
     uint64_t sum;
 } loftsplice_listed;
 
+/* The run count, and the bytes that the record takes. */
+typedef struct loftsplice_read {
+    uint32_t refusal;
+    uint64_t runs;
+    uint64_t used;
+} loftsplice_read;
+
+/* The number of bytes written. */
+typedef struct loftsplice_written {
+    uint32_t refusal;
+    uint64_t bytes;
+} loftsplice_written;
+
 /* ---- the column */
 
 /* Whether the three lists are a column: 0, or refused 1, 2, 3. */
@@ -236,6 +249,16 @@ loftsplice_listed loftsplice_list(const int64_t *starts, size_t starts_len, cons
     size_t steps_len, const uint64_t *from, size_t from_len, const uint64_t *to, size_t to_len, const int64_t *lower_values,
     size_t lower_values_len, const uint8_t *lower_kinds, size_t lower_kinds_len, const int64_t *upper_values, size_t upper_values_len,
     const uint8_t *upper_kinds, size_t upper_kinds_len, int64_t *out, size_t out_len, uint64_t *counts, size_t counts_len);
+
+/* ---- the stored record */
+
+/* Reads the record at the front of bytes into the first places of the three lists; or refused 11, 13, 12, 10, 2, 3, and then nothing is written. */
+loftsplice_read loftsplice_read_record(const uint8_t *bytes, size_t bytes_len, int64_t *starts, size_t starts_len, uint64_t *ends, size_t ends_len,
+    int16_t *steps, size_t steps_len);
+
+/* Writes a column's record into the first places of out; or refused 1, 2, 3, 10, and then nothing is written. */
+loftsplice_written loftsplice_write_record(const int64_t *starts, size_t starts_len, const uint64_t *ends, size_t ends_len, const int16_t *steps,
+    size_t steps_len, uint8_t *out, size_t out_len);
 
 #ifdef __cplusplus
 }

@@ -488,11 +488,45 @@ static void listings(void) {
     LISTING(C, many, 257, many, 257, above, 1, exclusive, 1, 8, 4, LOFTSPLICE_BOUNDS, all, 0, counts, 0);
 }
 
+static void records(void) {
+    static const uint8_t stored[] = {0x10, 0, 0, 0, 1, 0, 0x0A, 0, 0, 0, 0, 0, 0, 0, 0xFB, 0xFF, 2, 0, 0, 0, 0x77};
+    int64_t starts[2] = {7, 7};
+    uint64_t ends[2] = {7, 7};
+    int16_t steps[2] = {7, 7};
+    loftsplice_read r = loftsplice_read_record(stored, 21, starts, 2, ends, 2, steps, 2);
+    SAME(r.refusal, 0), SAME(r.runs, 1), SAME(r.used, 20);
+    SAME(starts[0], 10), SAME(ends[0], 2), SAME(steps[0], -5), SAME(starts[1], 7), SAME(ends[1], 7), SAME(steps[1], 7);
+    uint8_t out[21];
+    memset(out, 0xAA, sizeof out);
+    loftsplice_written w = loftsplice_write_record(starts, 1, ends, 1, steps, 1, out, 21);
+    SAME(w.refusal, 0), SAME(w.bytes, 20), SAME(memcmp(out, stored, 20), 0), SAME(out[20], 0xAA);
+    w = loftsplice_write_record(starts, 1, ends, 1, steps, 1, out, 19);
+    SAME(w.refusal, LOFTSPLICE_ROOM), SAME(w.bytes, 0);
+    w = loftsplice_write_record(starts, 1, ends, 2, steps, 1, out, 21);
+    SAME(w.refusal, LOFTSPLICE_SHAPE), SAME(w.bytes, 0);
+    static const struct { size_t len; size_t places; uint8_t at, byte; uint32_t refusal; } bad[] = {
+        {3, 2, 20, 0, LOFTSPLICE_CUT}, {19, 2, 20, 0, LOFTSPLICE_CUT}, {20, 2, 4, 2, LOFTSPLICE_KIND}, {21, 2, 0, 0x11, LOFTSPLICE_SIZE},
+        {21, 2, 0, 1, LOFTSPLICE_SIZE}, {20, 0, 20, 0, LOFTSPLICE_ROOM}, {20, 2, 16, 0, LOFTSPLICE_ENDS}};
+    for (size_t i = 0; i < sizeof bad / sizeof *bad; i++) {
+        uint8_t bytes[21];
+        memcpy(bytes, stored, sizeof bytes);
+        bytes[bad[i].at] = bad[i].byte;
+        int64_t s = 7;
+        uint64_t e = 7;
+        int16_t t = 7;
+        size_t places = bad[i].places != 0;
+        r = loftsplice_read_record(bytes, bad[i].len, &s, places, &e, places, &t, places);
+        SAME(r.refusal, bad[i].refusal);
+        SAME(r.runs, 0), SAME(r.used, 0), SAME(s, 7), SAME(e, 7), SAME(t, 7);
+    }
+}
+
 int main(void) {
     columns();
     scans();
     filters();
     listings();
+    records();
     printf("c-test: %lu comparisons, %lu failed\n", made, failed);
     return failed != 0;
 }

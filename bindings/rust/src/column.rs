@@ -59,6 +59,15 @@ impl<'a> Column<'a> {
         )
     }
 
+    /// The column of three lists that the library gave as one.
+    pub(crate) fn read(starts: &'a [i64], ends: &'a [u64], steps: &'a [i16]) -> Column<'a> {
+        Column {
+            starts,
+            ends,
+            steps,
+        }
+    }
+
     /// The run starts.
     ///
     /// ```

@@ -24,6 +24,7 @@ mod column;
 mod filter;
 mod listing;
 pub mod raw;
+mod record;
 mod refusal;
 mod scan;
 #[allow(unsafe_code)]
@@ -33,5 +34,6 @@ pub use bound::{Bound, Variables};
 pub use column::{diff_step, Column, Place};
 pub use filter::{Filter, FilterState, Values};
 pub use listing::list;
+pub use record::{read_record, write_record, Record};
 pub use refusal::Refusal;
 pub use scan::{Scan, ScanState};

@@ -14,8 +14,8 @@
 
 pub use crate::sys::{
     check, diff_step, filter_current, filter_new, filter_next, filter_reset, filter_seek, get,
-    is_empty, len, list, place, scan_current, scan_narrow, scan_new, scan_next, scan_pos,
-    scan_reset, scan_seek,
+    is_empty, len, list, place, read_record, scan_current, scan_narrow, scan_new, scan_next,
+    scan_pos, scan_reset, scan_seek, write_record,
 };
 
 /// The refusal of a number that is no state or kind, and of two lists that belong together and differ in length; tried before all others.
@@ -227,4 +227,26 @@ pub struct Listed {
     pub refusal: u32,
     /// The number of values written.
     pub sum: u64,
+}
+
+/// The run count, and the bytes that the record takes.
+#[repr(C)]
+#[derive(Clone, Copy, Debug, PartialEq, Eq)]
+pub struct ReadRecord {
+    /// The refusal's number, or 0.
+    pub refusal: u32,
+    /// The run count.
+    pub runs: u64,
+    /// The bytes that the record takes.
+    pub used: u64,
+}
+
+/// The number of bytes written.
+#[repr(C)]
+#[derive(Clone, Copy, Debug, PartialEq, Eq)]
+pub struct Written {
+    /// The refusal's number, or 0.
+    pub refusal: u32,
+    /// The number of bytes written.
+    pub bytes: u64,
 }

@@ -4,7 +4,7 @@
 //! keep no pointer. What is left to show at each call is said there.
 use crate::raw::{
     Answer, Difference, Emptiness, Filter, Length, Listed, Moved, NewFilter, NewScan, Place,
-    Position, Reset, Scan, Sifted, Variables,
+    Position, ReadRecord, Reset, Scan, Sifted, Variables, Written,
 };
 
 extern "C" {
@@ -179,6 +179,26 @@ extern "C" {
         steps: *const i16,
         steps_len: usize,
     ) -> Answer;
+    fn loftsplice_read_record(
+        bytes: *const u8,
+        bytes_len: usize,
+        starts: *mut i64,
+        starts_len: usize,
+        ends: *mut u64,
+        ends_len: usize,
+        steps: *mut i16,
+        steps_len: usize,
+    ) -> ReadRecord;
+    fn loftsplice_write_record(
+        starts: *const i64,
+        starts_len: usize,
+        ends: *const u64,
+        ends_len: usize,
+        steps: *const i16,
+        steps_len: usize,
+        out: *mut u8,
+        out_len: usize,
+    ) -> Written;
     fn loftsplice_list(
         starts: *const i64,
         starts_len: usize,
@@ -569,6 +589,47 @@ pub fn list(
             out.len(),
             counts.as_mut_ptr(),
             counts.len(),
+        )
+    }
+}
+
+/// Reads the record at the front of the bytes into the first places of the three lists; or refused 11, 13, 12, 10, 2, 3.
+pub fn read_record(
+    bytes: &[u8],
+    starts: &mut [i64],
+    ends: &mut [u64],
+    steps: &mut [i16],
+) -> ReadRecord {
+    // SAFETY: each pointer and length are those of a slice that is borrowed for the whole call, the three that are written of slices borrowed for
+    // writing, so that they overlap with no other; and every number is allowed.
+    unsafe {
+        loftsplice_read_record(
+            bytes.as_ptr(),
+            bytes.len(),
+            starts.as_mut_ptr(),
+            starts.len(),
+            ends.as_mut_ptr(),
+            ends.len(),
+            steps.as_mut_ptr(),
+            steps.len(),
+        )
+    }
+}
+
+/// Writes a column's record into the first places of `out`; or refused 1, 2, 3, 10.
+pub fn write_record(starts: &[i64], ends: &[u64], steps: &[i16], out: &mut [u8]) -> Written {
+    // SAFETY: each pointer and length are those of a slice that is borrowed for the whole call, the one that is written of a slice borrowed for
+    // writing, so that it overlaps with no other; and every number is allowed.
+    unsafe {
+        loftsplice_write_record(
+            starts.as_ptr(),
+            starts.len(),
+            ends.as_ptr(),
+            ends.len(),
+            steps.as_ptr(),
+            steps.len(),
+            out.as_mut_ptr(),
+            out.len(),
         )
     }
 }

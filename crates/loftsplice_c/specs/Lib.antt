@@ -5,3 +5,4 @@ pub mod Scan
 pub mod Limits
 pub mod Filter
 pub mod Listing
+pub mod Stored

@@ -8,3 +8,4 @@ pub mod filter_calls;
 pub mod limits;
 pub mod listing;
 pub mod scan;
+pub mod stored;
