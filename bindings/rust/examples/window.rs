@@ -20,7 +20,7 @@ fn main() -> Result<(), Box<dyn Error>> {
     let (mut values, mut counts) = (vec![0; places as usize], [0]);
     let sum = list(
         column,
-        &[window.clone()],
+        std::slice::from_ref(&window),
         &[],
         &[],
         &mut values,
