@@ -1,0 +1,1 @@
+../oracle/sha256.rs

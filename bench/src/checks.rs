@@ -1,0 +1,111 @@
+//! The check of a column and the rising test, against plain Rust.
+use crate::clock::{Against, Clock, work};
+use crate::columns::{Edge, Runs, edged, rising};
+use crate::plain;
+use loftsplice::raw;
+use std::hint::black_box;
+
+fn check(clock: &mut Clock, runs: u64, edge: Edge, place: &str, target: Option<f64>) {
+    let Runs { starts, ends, steps } = &edged(runs, edge);
+    assert_eq!((raw::check(starts, ends, steps), plain::check(starts, ends, steps)), (0, 0));
+    clock.race(
+        "check",
+        format!("{runs} runs{place}"),
+        ("run", runs),
+        work(|| raw::check(black_box(starts), ends, steps)),
+        vec![(
+            Against { name: "plain check", target },
+            work(|| plain::check(black_box(starts), ends, steps)),
+        )],
+    );
+}
+
+/// Both sides refuse alike, by the number: the baseline makes the same checks.
+fn refused_alike() {
+    let column = rising(64, 640);
+    let both = |c: &Runs| (raw::check(&c.starts, &c.ends, &c.steps), plain::check(&c.starts, &c.ends, &c.steps));
+    let mut seen = [0; 4];
+    for run in 0..64 {
+        for kind in 0..5 {
+            let mut bad = column.clone();
+            match kind {
+                0 => bad.ends[run] = if run == 0 { 0 } else { bad.ends[run - 1] },
+                1 => bad.ends[run] = 4_294_967_296,
+                2 => bad.starts[run] = i64::MAX - 1,
+                3 => (bad.starts[0], bad.ends[run]) = (i64::MAX, 0),
+                _ => bad.steps.truncate(run),
+            }
+            let (port, plain) = both(&bad);
+            assert_eq!(port, plain);
+            seen[port as usize] += 1;
+        }
+    }
+    assert_eq!(seen, [0, 64, 192, 64]);
+}
+
+/// No call is the rising test alone. A listing of 256 windows, each the whole column, with a bound that no element meets, is 256 rising tests, with one
+/// check and a search in each window on top. The Rust makes the check and the tests, and leaves out the searches.
+fn rise(clock: &mut Clock, runs: u64, target: Option<f64>) {
+    let column = rising(runs, runs * 64);
+    let Runs { starts, ends, steps } = &column;
+    let (from, to) = (vec![0; 256], vec![column.len(); 256]);
+    let port = |to: &[u64]| {
+        let mut counts = [1; 256];
+        let listed = raw::list(starts, ends, steps, &from, to, &[i64::MAX], &[raw::INCLUSIVE as u8], &[], &[], &mut [], &mut counts);
+        assert_eq!(counts, [0; 256]);
+        listed.refusal
+    };
+    let rust = |to: &[u64]| {
+        let checked = plain::check(starts, ends, steps);
+        let all = from.iter().zip(to).all(|(&from, &to)| plain::rises(black_box(starts), ends, steps, from, to));
+        if checked != 0 {
+            checked
+        } else if all {
+            0
+        } else {
+            7
+        }
+    };
+    assert_eq!((port(&to), rust(&to)), (0, 0));
+    falls_alike(&column);
+    clock.race(
+        "rising test, by a listing of 256 windows",
+        format!("{runs} runs"),
+        ("run", 256 * runs),
+        work(|| port(black_box(&to))),
+        vec![(
+            Against { name: "plain rising test", target },
+            work(|| rust(black_box(&to))),
+        )],
+    );
+}
+
+/// Both sides find a run that doesn't rise, or doesn't join the one before.
+fn falls_alike(column: &Runs) {
+    for run in 0..column.ends.len() {
+        for kind in 0..2 {
+            let mut bad = column.clone();
+            if kind == 0 { bad.steps[run] = -1 } else { bad.starts[run] -= 5 }
+            let Runs { starts, ends, steps } = &bad;
+            let scan = raw::Scan { start: 0, end: bad.len(), index: 0, state: raw::FRESH };
+            let refused = raw::scan_seek(scan, starts, ends, steps, 0).answer.refusal;
+            assert!(refused == 0 || refused == 7);
+            assert_eq!(plain::rises(starts, ends, steps, 0, bad.len()), refused == 0);
+            assert!(refused == 7 || (kind == 1 && run == 0));
+        }
+    }
+}
+
+pub fn measure(clock: &mut Clock) {
+    refused_alike();
+    let most = Some(0.6);
+    check(clock, 16, Edge::Nowhere, "", None);
+    check(clock, 256, Edge::Nowhere, "", None);
+    check(clock, 4096, Edge::Nowhere, "", most);
+    check(clock, 4096, Edge::First, ", the first at an edge of i64", None);
+    check(clock, 4096, Edge::Last, ", the last at an edge", None);
+    check(clock, 4096, Edge::All, ", all at an edge", None);
+    rise(clock, 16, None);
+    rise(clock, 256, None);
+    rise(clock, 4096, most);
+}

@@ -1,0 +1,70 @@
+//! What a Rust programmer writes for the same work: slices zipped, no bounds test in a loop.
+
+/// Refusals 1, 2, 3, or 0: one loop, left at once for a bad end; reach goes into a flag, since a bad end further on is refused first. The ends rise, so
+/// one look at the last is enough for their limit.
+#[inline(never)]
+pub fn check(starts: &[i64], ends: &[u64], steps: &[i16]) -> u32 {
+    if starts.len() != ends.len() || steps.len() != ends.len() || ends.len() > 4096 {
+        return 1;
+    }
+    let mut last = 0u64;
+    let mut outside = false;
+    for ((&start, &end), &step) in starts.iter().zip(ends).zip(steps) {
+        if end <= last {
+            return 2;
+        }
+        // Exact where the ends keep their limit: the product is below 2^47 then.
+        outside |= start.overflowing_add(i64::from(step).wrapping_mul((end - last - 1) as i64)).1;
+        last = end;
+    }
+    if last > 4_294_967_295 {
+        return 2;
+    }
+    if outside { 3 } else { 0 }
+}
+
+/// Whether a window of a checked column rises, run by run.
+#[inline(never)]
+pub fn rises(starts: &[i64], ends: &[u64], steps: &[i16], start: u64, end: u64) -> bool {
+    if end <= start {
+        return true;
+    }
+    let first = ends.partition_point(|&e| e <= start);
+    let last = ends.partition_point(|&e| e < end);
+    let mut from = if first == 0 { 0 } else { ends[first - 1] };
+    let mut index = start;
+    let runs = starts[first..last].iter().zip(&steps[first..last]).zip(&ends[first..last]);
+    for (((&value, &step), &beyond), &next) in runs.zip(&starts[first + 1..=last]) {
+        if step <= 0 && index + 1 < beyond {
+            return false;
+        }
+        if value + i64::from(step) * (beyond - from - 1) as i64 >= next {
+            return false;
+        }
+        from = beyond;
+        index = beyond;
+    }
+    end <= index + 1 || steps[last] > 0
+}
+
+/// The elements from one index up to another, run by run with a running value; nothing is checked.
+#[inline(never)]
+pub fn fill(starts: &[i64], ends: &[u64], steps: &[i16], first: u64, beyond: u64, out: &mut [i64]) {
+    let mut run = ends.partition_point(|&end| end <= first);
+    let mut index = first;
+    let mut rest = out;
+    while index < beyond {
+        let from = if run == 0 { 0 } else { ends[run - 1] };
+        let end = ends[run].min(beyond);
+        let (part, more) = rest.split_at_mut((end - index) as usize);
+        let step = i64::from(steps[run]);
+        let mut value = starts[run] + step * (index - from) as i64;
+        for place in part {
+            *place = value;
+            value = value.wrapping_add(step);
+        }
+        rest = more;
+        index = end;
+        run += 1;
+    }
+}

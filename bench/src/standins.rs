@@ -1,0 +1,1 @@
+../../oracle/src/standins.rs
