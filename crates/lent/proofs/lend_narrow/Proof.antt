@@ -47,8 +47,8 @@ use Rattle.meaning.specs.declared.Answer.{Answer}
 use Rattle.loftsplice.specs.declared.scan.Moved.{Moved}
 use Rattle.loftsplice.proofs.scan.Scan as T
 use Rattle.loftsplice.proofs.scan.Scan.Laws as T′
-use Rattle.loftsplice.proofs.scan.Answer as N
-use Rattle.loftsplice.proofs.scan.Answer.Laws as N′
+use Rattle.meaning.proofs.Answer as N
+use Rattle.meaning.proofs.Answer.Laws as N′
 use Rattle.loftsplice.proofs.scan.Moved as S
 use Rattle.lent.specs.Lending.{Narrow, Lent}
 use Rattle.lent.proofs.Lending.{lent-handed}

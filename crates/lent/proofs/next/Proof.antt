@@ -55,7 +55,7 @@ use Rattle.meaning.specs.Column.{lent, sourceOf}
 use Rattle.loftsplice.specs.declared.scan.Scan.{Scan}
 use Rattle.loftsplice.specs.declared.scan.Moved.{Moved}
 use Rattle.loftsplice.proofs.scan.Scan as T
-use Rattle.loftsplice.proofs.scan.Answer as N
+use Rattle.meaning.proofs.Answer as N
 use Rattle.loftsplice.proofs.scan.Moved as S
 use Rattle.loftsplice.proofs.scan.Moved.Laws as S′
 use Rattle.lent.specs.Lending.{Next, Handed}
