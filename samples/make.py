@@ -1,11 +1,11 @@
 #!/usr/bin/env python3
-"""Makes the samples: bark.rec, the numbers of the records that carry bark, and damaged.rec, the same with a run of no records. With --check
-the stored files are compared with what is made, and a difference fails."""
+"""Makes the samples: bark.rec, the numbers of the records that carry bark, and damaged.rec, the same with a run of no records; and the copy of
+bark.rec on which the command is run when it is checked. With --check the stored files are compared with what is made, and a difference fails."""
 import pathlib
 import sys
 
-HERE = pathlib.Path(__file__).resolve().parent
-sys.path.insert(0, str(HERE.parent / 'scripts'))
+ROOT = pathlib.Path(__file__).resolve().parent.parent
+sys.path.insert(0, str(ROOT / 'scripts'))
 
 from model import runs  # noqa: E402
 
@@ -18,13 +18,13 @@ def samples():
     damaged = bytearray(bark)
     # the length of the third run
     damaged[6 + 14 * 2 + 10:6 + 14 * 2 + 14] = bytes(4)
-    return {'bark.rec': bark, 'damaged.rec': bytes(damaged)}
+    return {'samples/bark.rec': bark, 'samples/damaged.rec': bytes(damaged), 'crates/command/data/bark.rec': bark}
 
 
 def main():
     wrong = []
     for name, data in samples().items():
-        path = HERE / name
+        path = ROOT / name
         if '--check' not in sys.argv[1:]:
             path.write_bytes(data)
         elif not path.exists() or path.read_bytes() != data:

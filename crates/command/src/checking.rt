@@ -1,13 +1,15 @@
 // check FILE: a column that passed the check, described.
 use crate::printing;
+use crate::printing::signed;
+use crate::printing::text;
+use crate::printing::unsigned;
+use loftsplice::rle::Got;
 use loftsplice::rle::Length;
 use loftsplice::rle::get;
 use loftsplice::rle::len;
 use loftsplice::scan::Made;
 use loftsplice::scan::Scan;
 use meaning::Answer;
-use shown::text;
-use shown::unsigned;
 
 // Whether each element is above the one before: a seek over a window that doesn't rise is refused.
 fn rises(starts: &[i64], ends: &[u64], steps: &[i16]) -> bool {
@@ -24,33 +26,47 @@ fn rises(starts: &[i64], ends: &[u64], steps: &[i16]) -> bool {
     }
 }
 
-// The first and the last element, where there is one.
-fn edges(starts: &[i64], ends: &[u64], steps: &[i16], length: u64) {
-    if length == 0 {
-        text(b"first none\nlast none\n");
-        return;
+fn element(got: Got) -> bool {
+    match got {
+        Got::Value(value) => signed(value, 10),
+        Got::Refused(why) => {
+            printing::refused(why);
+            false
+        }
     }
-    text(b"first ");
-    shown::got(get(starts, ends, steps, 0));
-    text(b"\nlast ");
-    shown::got(get(starts, ends, steps, length - 1));
-    text(b"\n");
+}
+
+fn sizes(runs: u64, length: u64) -> bool {
+    text(b"sound\nruns ") && unsigned(runs) && text(b"\nlength ") && unsigned(length) && text(b"\n")
+}
+
+// The first and the last element, where there is one.
+fn edges(starts: &[i64], ends: &[u64], steps: &[i16], length: u64) -> bool {
+    if length == 0 {
+        return text(b"first none\nlast none\n");
+    }
+    text(b"first ")
+        && element(get(starts, ends, steps, 0))
+        && text(b"last ")
+        && element(get(starts, ends, steps, length - 1))
+}
+
+fn order(rising: bool) -> bool {
+    if rising {
+        return text(b"rising yes\n");
+    }
+    text(b"rising no\n")
 }
 
 pub fn report(starts: &[i64], ends: &[u64], steps: &[i16]) {
     match len(starts, ends, steps) {
         Length::Refused(why) => printing::refused(why),
         Length::Is(length) => {
-            text(b"sound\nruns ");
-            unsigned(ends.len() as u64);
-            text(b"\nlength ");
-            unsigned(length);
-            text(b"\n");
-            edges(starts, ends, steps, length);
-            if rises(starts, ends, steps) {
-                text(b"rising yes\n");
-            } else {
-                text(b"rising no\n");
+            if !sizes(ends.len() as u64, length) {
+                return;
+            }
+            if edges(starts, ends, steps, length) {
+                order(rises(starts, ends, steps));
             }
         }
     }

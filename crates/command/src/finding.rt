@@ -2,25 +2,32 @@
 use crate::arguments;
 use crate::numbers::Signed;
 use crate::printing;
+use crate::printing::signed;
+use crate::printing::text;
+use crate::printing::unsigned;
 use loftsplice::scan::Made;
 use loftsplice::scan::Position;
 use loftsplice::scan::Scan;
 use meaning::Answer;
-use shown::text;
 
-fn filled(k: i64) {
-    shown::signed(k);
-    text(b" filled\n");
+fn filled(k: i64) -> bool {
+    signed(k, 32) && text(b"filled\n")
 }
 
-fn carried(k: i64, position: Position) {
-    shown::signed(k);
-    text(b" carried at index ");
-    shown::position(position);
-    text(b"\n");
+fn carried(k: i64, position: Position) -> bool {
+    match position {
+        Position::Index(i) => {
+            signed(k, 32) && text(b"carried at index ") && unsigned(i) && text(b"\n")
+        }
+        Position::None => filled(k),
+        Position::Refused(why) => {
+            printing::refused(why);
+            false
+        }
+    }
 }
 
-// A seek by a fresh scan: the number is carried exactly if the seek answers the number itself. Answers whether nothing was refused.
+// A seek by a fresh scan: the number is carried exactly if the seek answers the number itself. Answers whether to go on.
 fn sought(starts: &[i64], ends: &[u64], steps: &[i16], scan: Scan, k: i64) -> bool {
     let moved = scan.seek(starts, ends, steps, k);
     let answer = moved.answer;
@@ -28,21 +35,19 @@ fn sought(starts: &[i64], ends: &[u64], steps: &[i16], scan: Scan, k: i64) -> bo
     match answer {
         Answer::Refused(why) => {
             printing::refused(why);
-            return false;
+            false
         }
         Answer::None => filled(k),
         Answer::Value(value) => {
             if value == k {
-                carried(k, at.pos(starts, ends, steps));
-            } else {
-                filled(k);
+                return carried(k, at.pos(starts, ends, steps));
             }
+            filled(k)
         }
     }
-    true
 }
 
-// What argument i asks for. Answers whether nothing was refused.
+// What argument i asks for. Answers whether to go on: not after a refusal or a write that failed.
 fn find_one(starts: &[i64], ends: &[u64], steps: &[i16], i: usize) -> bool {
     let Signed::Is(k) = arguments::signed(i) else {
         return false;

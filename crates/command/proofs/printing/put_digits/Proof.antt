@@ -5,10 +5,10 @@ use Rattle.command.proofs.printing.put_digits.Statement.{statement}
 use Rattle.command.proofs.printing.put_digits.Tie as tie
 
 abbrev Inv-loop : tie.InvT-loop
-Inv-loop digits n buf₀ at i₀ buf i = i ≤ 20
+Inv-loop digits n after buf₀ at i₀ buf i = i ≤ 20
 
 abbrev μ-loop : tie.MeasureT-loop
-μ-loop digits n buf₀ at i₀ buf i = 20 - i
+μ-loop digits n after buf₀ at i₀ buf i = 20 - i
 
 loop-holds : tie.Need-loop-holds Inv-loop μ-loop
 loop-holds c = search needs
