@@ -7,6 +7,9 @@ import sys
 from model import C, D, Column, Refused, Scan, diff_step, listing, read
 
 ROOT = pathlib.Path(__file__).resolve().parent.parent
+sys.path.insert(0, str(ROOT / 'samples'))
+
+from make import BARK  # noqa: E402
 
 
 def said(call, show=str):
@@ -256,7 +259,20 @@ def stored():
     return '\n'.join(out) + '\n'
 
 
-PROGRAMS = {'run_only': run_only, 'scanned': scanned, 'lending': lending, 'listed': listed, 'stored': stored}
+def listed_lines(column, start, end, lower=(), upper=()):
+    """The elements of one window that meet the bounds, one a line."""
+    values, counts = [0] * column.length, [0]
+    total = listing(column, [start], [end], list(lower), list(upper), values, counts)
+    return ''.join(f'{v}\n' for v in values[:total])
+
+
+def command():
+    """crates/command/args: list bark.rec 2 13 --above 3 --to 29"""
+    return listed_lines(BARK, 2, 13, [(3, True)], [(29, False)])
+
+
+PROGRAMS = {'run_only': run_only, 'scanned': scanned, 'lending': lending, 'listed': listed, 'stored': stored,
+            'command': command}
 
 
 def main():

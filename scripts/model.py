@@ -1,5 +1,6 @@
 """Document 01 in Python, written from its sentences and from nothing else. It says what the programs under crates/ must write:
 expected.py beside it writes their stored output with it, and the gate compares."""
+import bisect
 
 I64 = range(-2**63, 2**63)
 SHAPE, ENDS, REACH, INDEX, WINDOW, SCAN, ORDER, BOUNDS, INPUT, ROOM, CUT, KIND, SIZE = range(1, 14)
@@ -26,14 +27,18 @@ def diff_step(previous, current):
 class Column:
     def __init__(self, starts, ends, steps):
         self.starts, self.ends, self.steps = starts, ends, steps
+        self.sound, self.risen = False, {}
 
     def check(self):
-        """1, 2, 3: each over the whole input before the next."""
+        """1, 2, 3: each over the whole input before the next. A column is not changed once it is made, so what was found is kept."""
+        if self.sound:
+            return
         n = len(self.ends)
         refuse_if(not (len(self.starts) == len(self.steps) == n <= 4096), SHAPE)
         before = [0] + list(self.ends)
         refuse_if(any(e <= b or e > 4294967295 for b, e in zip(before, self.ends)), ENDS)
         refuse_if(any(s + d * (e - b - 1) not in I64 for s, d, b, e in zip(self.starts, self.steps, before, self.ends)), REACH)
+        self.sound = True
 
     def len(self):
         self.check()
@@ -49,7 +54,7 @@ class Column:
         return self.at(i)
 
     def at(self, i):
-        run = next((r for r, e in enumerate(self.ends) if e > i), len(self.ends))
+        run = bisect.bisect_right(self.ends, i)
         return run, i - (self.ends[run - 1] if run else 0)
 
     def get(self, i):
@@ -62,6 +67,11 @@ class Column:
         return self.starts[run] + self.steps[run] * offset
 
     def rises(self, start, end):
+        if (start, end) not in self.risen:
+            self.risen[start, end] = self.climbs(start, end)
+        return self.risen[start, end]
+
+    def climbs(self, start, end):
         """Element by element, but a long run is decided by its step."""
         i = start
         while i + 1 < end:

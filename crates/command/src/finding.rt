@@ -1,0 +1,73 @@
+// find FILE K..: whether the column has each number. A record that has no number there is filled.
+use crate::arguments;
+use crate::numbers::Signed;
+use crate::printing;
+use crate::printing::signed;
+use crate::printing::text;
+use crate::printing::unsigned;
+use loftsplice::scan::Made;
+use loftsplice::scan::Position;
+use loftsplice::scan::Scan;
+use meaning::Answer;
+
+fn filled(k: i64) -> bool {
+    signed(k, 32) && text(b"filled\n")
+}
+
+fn carried(k: i64, position: Position) -> bool {
+    match position {
+        Position::Index(i) => {
+            signed(k, 32) && text(b"carried at index ") && unsigned(i) && text(b"\n")
+        }
+        Position::None => filled(k),
+        Position::Refused(why) => {
+            printing::refused(why);
+            false
+        }
+    }
+}
+
+// A seek by a fresh scan: the number is carried exactly if the seek answers the number itself. Answers whether to go on.
+fn sought(starts: &[i64], ends: &[u64], steps: &[i16], scan: Scan, k: i64) -> bool {
+    let moved = scan.seek(starts, ends, steps, k);
+    let answer = moved.answer;
+    let at = moved.scan;
+    match answer {
+        Answer::Refused(why) => {
+            printing::refused(why);
+            false
+        }
+        Answer::None => filled(k),
+        Answer::Value(value) => {
+            if value == k {
+                return carried(k, at.pos(starts, ends, steps));
+            }
+            filled(k)
+        }
+    }
+}
+
+// What argument i asks for. Answers whether to go on: not after a refusal or a write that failed.
+fn find_one(starts: &[i64], ends: &[u64], steps: &[i16], i: usize) -> bool {
+    let Signed::Is(k) = arguments::signed(i) else {
+        return false;
+    };
+    match Scan::new(starts, ends, steps) {
+        Made::Refused(why) => {
+            printing::refused(why);
+            false
+        }
+        Made::Ready(scan) => sought(starts, ends, steps, scan, k),
+    }
+}
+
+pub fn find_all(starts: &[i64], ends: &[u64], steps: &[i16]) {
+    let count = os::arg_count();
+    let mut i = 3;
+    while i < count {
+        if !find_one(starts, ends, steps, i) {
+            return;
+        }
+        i += 1;
+    }
+}
