@@ -45,16 +45,14 @@ impl Row {
 
 pub struct Clock {
     pub rounds: usize,
+    /// Only what is named so is timed; all is, by the empty text.
+    pub only: String,
     pub rows: Vec<Row>,
 }
 
 const SAMPLE: f64 = 1_000_000.0;
 
 impl Clock {
-    pub fn new(rounds: usize) -> Clock {
-        Clock { rounds, rows: Vec::new() }
-    }
-
     /// Times the port, then each baseline, round by round. `units` is how many units one operation does.
     pub fn race<'a>(
         &mut self,
@@ -64,6 +62,9 @@ impl Clock {
         port: Work<'a>,
         baselines: Vec<(Against, Work<'a>)>,
     ) {
+        if !format!("{group}, {size}").contains(&self.only) {
+            return;
+        }
         let (names, works): (Vec<_>, Vec<_>) = baselines.into_iter().unzip();
         let mut sides: Vec<Work> = std::iter::once(port).chain(works).collect();
         let counts: Vec<u64> = sides.iter_mut().map(calibrated).collect();

@@ -50,9 +50,9 @@ fn test(runs: &[[u8; 14]]) -> Result<(), u32> {
 }
 
 fn split(run: &[u8; 14]) -> (i64, i16, u64) {
-    let [start @ .., _, _, _, _, _, _] = *run;
-    let [.., low, high, a, b, c, d] = *run;
-    (i64::from_le_bytes(start), i16::from_le_bytes([low, high]), u64::from(u32::from_le_bytes([a, b, c, d])))
+    let start = i64::from_le_bytes(run[..8].try_into().expect("8 bytes"));
+    let step = i16::from_le_bytes(run[8..10].try_into().expect("2 bytes"));
+    (start, step, u64::from(u32::from_le_bytes(run[10..].try_into().expect("4 bytes"))))
 }
 
 /// The bytes written, or a refusal's number.

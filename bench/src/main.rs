@@ -1,8 +1,9 @@
 //! The port and the Rust timed side by side: `bash scripts/bench` from the project's root. docs/BENCHMARKS.md says what is measured and how.
 //!
-//!     bench [--rounds N] [--page FILE --picture FILE]
+//!     bench [--rounds N] [--only TEXT] [--page FILE --picture FILE]
 //!
-//! Prints the table; with --page it is written between that file's markers as well, and the picture is drawn.
+//! Prints the table; with --page it is written between that file's markers as well, and with --picture the picture is drawn. With --only just the rows
+//! whose name and size hold the text are timed and printed, and nothing is written.
 
 #[cfg(not(rust_text))]
 compile_error!("bench needs the Rust's text: ../shared/docs/src beside the project, or the folder that LOFTSPLICE_RUST_SOURCE names");
@@ -38,23 +39,27 @@ use clock::Clock;
 
 fn main() {
     let mut arguments = std::env::args().skip(1);
-    let (mut rounds, mut file, mut picture) = (101, None, None);
+    let mut clock = Clock { rounds: 101, only: String::new(), rows: Vec::new() };
+    let (mut file, mut picture) = (None, None);
     while let Some(argument) = arguments.next() {
         let value = arguments.next().unwrap_or_else(|| panic!("{argument} wants a value"));
         match argument.as_str() {
-            "--rounds" => rounds = value.parse().expect("a number of rounds"),
+            "--rounds" => clock.rounds = value.parse().expect("a number of rounds"),
+            "--only" => clock.only = value,
             "--page" => file = Some(value),
             "--picture" => picture = Some(value),
-            _ => panic!("bench [--rounds N] [--page FILE --picture FILE]"),
+            _ => panic!("bench [--rounds N] [--only TEXT] [--page FILE --picture FILE]"),
         }
     }
-    let mut clock = Clock::new(rounds);
     listing::measure(&mut clock);
     checks::measure(&mut clock);
     calls::measure(&mut clock);
         record::measure(&mut clock);
     let table = page::table(&clock);
     println!("{table}");
+    if !clock.only.is_empty() {
+        return; // a part of the table is for looking at, not for the page
+    }
     if let Some(file) = file {
         page::write(&file, &table);
     }

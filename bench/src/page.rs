@@ -11,7 +11,7 @@ pub fn grouped(number: u64) -> String {
     let digits = number.to_string();
     let mut text = String::new();
     for (at, digit) in digits.chars().enumerate() {
-        if at > 0 && (digits.len() - at) % 3 == 0 {
+        if at > 0 && (digits.len() - at).is_multiple_of(3) {
             text.push(',');
         }
         text.push(digit);
@@ -34,6 +34,15 @@ fn figure(row: &Row, time: f64) -> String {
     if row.unit == "byte" { format!("{} MB/s", grouped((1000.0 / time) as u64)) } else { format!("{} ns", short(time)) }
 }
 
+fn each(unit: &str) -> &'static str {
+    match unit {
+        "element" => " an element",
+        "run" => " a run",
+        "call" => " a call",
+        _ => "",
+    }
+}
+
 fn line(row: &Row) -> String {
     let [low, median, high] = row.ratio.map(short);
     let target = row.target.map_or("".to_string(), |most| format!("≤ {most}"));
@@ -43,15 +52,14 @@ fn line(row: &Row) -> String {
         None => "",
     };
     format!(
-        "| {} | {} | {} | {} a {} | {} | **{median}** ({low} to {high}) | {target} | {met} |",
+        "| {} | {} | {} | {}{} | {} | **{median}** ({low} to {high}) | {target} | {met} |",
         row.group,
         row.size,
         row.against,
         figure(row, row.port),
-        row.unit,
+        each(row.unit),
         figure(row, row.rust),
     )
-    .replace(" MB/s a byte", " MB/s")
 }
 
 pub fn table(clock: &Clock) -> String {
