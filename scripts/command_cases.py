@@ -61,7 +61,8 @@ def files():
     long = runs((LEAST, 32767, 3), (-5000, 3, 2048), (5000, 1, 2047), (7047, 1, 1), (8000, 7, 3000), (BIG - 1, 1, 2))
     return {
         'bark': bark, 'damaged': samples()['samples/damaged.rec'], 'long': long.write(57350), 'falling': D.write(57350),
-        'after': bark + b'what follows is not read', 'none': record(1), 'most': Column([7 * i for i in range(4096)], list(range(1, 4097)), [0] * 4096).write(57350),
+        'after': bark + b'what follows is not read', 'none': record(1),
+        'most': Column([7 * i for i in range(4096)], list(range(1, 4097)), [0] * 4096).write(57350),
         'over': record(1, (0, 0, 4294967295), (0, 0, 1)), 'full': record(1, (LEAST, 32767, 4294967295)), 'reach': record(1, (BIG, 1, 2)),
         'kind': record(2, (1, 1, 1)), 'size': (17).to_bytes(4, 'little') + bytes([1]) * 17, 'short': (1).to_bytes(4, 'little') + bytes(9),
         'large': (57360).to_bytes(4, 'little') + bytes(57360), 'cut': bark[:-1], 'three': bark[:3], 'empty': b''}
@@ -100,9 +101,10 @@ def calls():
             yield 'list', name, words + [w for o in options for w in o]
 
 
-USAGE = ('', 'check', 'list', 'find', 'find bark', 'look bark', 'check bark bark', 'list bark 1', 'list bark 1 x', 'list bark -1 5', 'list bark 1 5 9',
-         'list bark --from', 'list bark --from x', 'list bark --from 1 --above 2', 'list bark --to 1 --below 2', 'list bark --from 1 --from 1', 'list bark --over 1',
-         'list bark 18446744073709551616 1', 'list bark 1 5 --from 9223372036854775808', 'list bark --from -9223372036854775809', 'list bark --from --to 3',
+USAGE = ('', 'check', 'list', 'find', 'find bark', 'look bark', 'check bark bark', 'list bark 1', 'list bark 1 x', 'list bark -1 5',
+         'list bark 1 5 9', 'list bark --from', 'list bark --from x', 'list bark --from 1 --above 2', 'list bark --to 1 --below 2',
+         'list bark --from 1 --from 1', 'list bark --over 1', 'list bark 18446744073709551616 1', 'list bark 1 5 --from 9223372036854775808',
+         'list bark --from -9223372036854775809', 'list bark --from --to 3',
          'find bark 3 x', 'find bark 3.5', 'find bark -', 'find bark +3', 'find bark 99999999999999999999', 'find nofile x', 'find damaged x')
 
 
@@ -115,8 +117,9 @@ def main():
         rows.append(([mode, name, *words], *expected(files()[name], mode, words)))
     for line in USAGE:
         rows.append((line.split(), '', 'usage', 64))
-    for mode in (['check', 'nofile'], ['list', 'nofile'], ['find', 'nofile', '3'], ['check', '.'], ['check', ''], ['check', 'x' * 300], ['check', 'x' * 5000]):
-        rows.append((mode, '', 'no file', 66))
+    for words in (['check', 'nofile'], ['list', 'nofile'], ['find', 'nofile', '3'], ['check', '.'], ['check', ''], ['check', 'x' * 300],
+                  ['check', 'x' * 5000]):
+        rows.append((words, '', 'no file', 66))
     for i, (words, out, last, status) in enumerate(rows):
         case = folder / f'case{i:03}'
         case.mkdir()

@@ -1,5 +1,6 @@
 // find FILE K..: whether the column has each number. A record that has no number there is filled.
 use crate::arguments;
+use crate::help;
 use crate::numbers::Signed;
 use crate::printing;
 use crate::printing::signed;
@@ -14,17 +15,19 @@ fn filled(k: i64) -> bool {
     signed(k, 32) && text(b"filled\n")
 }
 
-fn carried(k: i64, position: Position) -> bool {
+fn index(position: Position) -> bool {
     match position {
-        Position::Index(i) => {
-            signed(k, 32) && text(b"carried at index ") && unsigned(i) && text(b"\n")
-        }
-        Position::None => filled(k),
+        Position::Index(i) => unsigned(i) && text(b"\n"),
+        Position::None => text(b"none\n"),
         Position::Refused(why) => {
             printing::refused(why);
             false
         }
     }
+}
+
+fn carried(k: i64, position: Position) -> bool {
+    signed(k, 32) && text(b"carried at index ") && index(position)
 }
 
 // A seek by a fresh scan: the number is carried exactly if the seek answers the number itself. Answers whether to go on.
@@ -50,6 +53,7 @@ fn sought(starts: &[i64], ends: &[u64], steps: &[i16], scan: Scan, k: i64) -> bo
 // What argument i asks for. Answers whether to go on: not after a refusal or a write that failed.
 fn find_one(starts: &[i64], ends: &[u64], steps: &[i16], i: usize) -> bool {
     let Signed::Is(k) = arguments::signed(i) else {
+        help::wrong();
         return false;
     };
     match Scan::new(starts, ends, steps) {

@@ -114,16 +114,13 @@ fn from_scan(starts: &[i64], ends: &[u64], steps: &[i16], scan: Scan, lower: Lim
         printing::refused(why);
         return;
     }
-    if let Position::Index(first) = found.pos(starts, ends, steps) {
-        pieces(
-            starts,
-            ends,
-            steps,
-            first,
-            end,
-            listed(lower),
-            listed(upper),
-        );
+    match found.pos(starts, ends, steps) {
+        Position::Refused(why) => printing::refused(why),
+        Position::None => {}
+        Position::Index(first) => {
+            let low = listed(lower);
+            pieces(starts, ends, steps, first, end, low, listed(upper));
+        }
     }
 }
 
