@@ -227,6 +227,13 @@ extern "C" {
 }
 
 /// Whether the three lists are a column: 0, or refused 1, 2, 3.
+///
+/// ```
+/// use loftsplice::raw;
+///
+/// assert_eq!(raw::check(&[10, 30], &[4, 5], &[5, 0]), 0); // 10 15 20 25, 30
+/// assert_eq!(raw::check(&[10, 30], &[4, 4], &[5, 0]), 2);
+/// ```
 pub fn check(starts: &[i64], ends: &[u64], steps: &[i16]) -> u32 {
     // SAFETY: each pointer and length are those of a slice that is borrowed for the whole call, and every number is allowed.
     unsafe {
@@ -242,6 +249,12 @@ pub fn check(starts: &[i64], ends: &[u64], steps: &[i16]) -> u32 {
 }
 
 /// The number of elements; or refused 1, 2, 3.
+///
+/// ```
+/// use loftsplice::raw;
+///
+/// assert_eq!(raw::len(&[10, 30], &[4, 5], &[5, 0]), raw::Length { refusal: 0, length: 5 });
+/// ```
 pub fn len(starts: &[i64], ends: &[u64], steps: &[i16]) -> Length {
     // SAFETY: each pointer and length are those of a slice that is borrowed for the whole call, and every number is allowed.
     unsafe {
@@ -257,6 +270,12 @@ pub fn len(starts: &[i64], ends: &[u64], steps: &[i16]) -> Length {
 }
 
 /// Whether there is no element; or refused 1, 2, 3.
+///
+/// ```
+/// use loftsplice::raw;
+///
+/// assert_eq!(raw::is_empty(&[], &[], &[]), raw::Emptiness { refusal: 0, empty: 1 });
+/// ```
 pub fn is_empty(starts: &[i64], ends: &[u64], steps: &[i16]) -> Emptiness {
     // SAFETY: each pointer and length are those of a slice that is borrowed for the whole call, and every number is allowed.
     unsafe {
@@ -272,6 +291,13 @@ pub fn is_empty(starts: &[i64], ends: &[u64], steps: &[i16]) -> Emptiness {
 }
 
 /// The run and offset of an index, (run count, 0) for the length; or refused 1, 2, 3, 4.
+///
+/// ```
+/// use loftsplice::raw;
+///
+/// assert_eq!(raw::place(&[10, 30], &[4, 5], &[5, 0], 3), raw::Place { refusal: 0, run: 0, offset: 3 });
+/// assert_eq!(raw::place(&[10, 30], &[4, 5], &[5, 0], 6).refusal, 4);
+/// ```
 pub fn place(starts: &[i64], ends: &[u64], steps: &[i16], index: u64) -> Place {
     // SAFETY: each pointer and length are those of a slice that is borrowed for the whole call, and every number is allowed.
     unsafe {
@@ -288,6 +314,13 @@ pub fn place(starts: &[i64], ends: &[u64], steps: &[i16], index: u64) -> Place {
 }
 
 /// The element at an index, `found` 1; or refused 1, 2, 3, 4.
+///
+/// ```
+/// use loftsplice::raw;
+///
+/// assert_eq!(raw::get(&[10, 30], &[4, 5], &[5, 0], 3), raw::Answer { refusal: 0, found: 1, value: 25 });
+/// assert_eq!(raw::get(&[10, 30], &[4, 5], &[5, 0], 5).refusal, 4);
+/// ```
 pub fn get(starts: &[i64], ends: &[u64], steps: &[i16], index: u64) -> Answer {
     // SAFETY: each pointer and length are those of a slice that is borrowed for the whole call, and every number is allowed.
     unsafe {
@@ -304,12 +337,26 @@ pub fn get(starts: &[i64], ends: &[u64], steps: &[i16], index: u64) -> Answer {
 }
 
 /// The step from one value to another, if there is one.
+///
+/// ```
+/// use loftsplice::raw;
+///
+/// assert_eq!(raw::diff_step(10, 5), raw::Difference { found: 1, step: -5 });
+/// assert_eq!(raw::diff_step(0, 32_768).found, 0);
+/// ```
 pub fn diff_step(previous: i64, current: i64) -> Difference {
     // SAFETY: only numbers are handed over, and every number is allowed.
     unsafe { loftsplice_diff_step(previous, current) }
 }
 
 /// A fresh scan over the whole column; or refused 1, 2, 3.
+///
+/// ```
+/// use loftsplice::raw;
+///
+/// let made = raw::scan_new(&[10, 30], &[4, 5], &[5, 0]);
+/// assert_eq!(made.scan, raw::Scan { start: 0, end: 5, index: 0, state: raw::FRESH });
+/// ```
 pub fn scan_new(starts: &[i64], ends: &[u64], steps: &[i16]) -> NewScan {
     // SAFETY: each pointer and length are those of a slice that is borrowed for the whole call, and every number is allowed.
     unsafe {
@@ -325,6 +372,14 @@ pub fn scan_new(starts: &[i64], ends: &[u64], steps: &[i16]) -> NewScan {
 }
 
 /// To the next element, or none at the window's end; or refused 100, 1, 2, 3, 6.
+///
+/// ```
+/// use loftsplice::raw;
+///
+/// let scan = raw::scan_new(&[10, 30], &[4, 5], &[5, 0]).scan;
+/// let moved = raw::scan_next(scan, &[10, 30], &[4, 5], &[5, 0]);
+/// assert_eq!((moved.answer.value, moved.scan.index, moved.scan.state), (10, 0, raw::AT));
+/// ```
 pub fn scan_next(scan: Scan, starts: &[i64], ends: &[u64], steps: &[i16]) -> Moved {
     // SAFETY: each pointer and length are those of a slice that is borrowed for the whole call, and every number is allowed.
     unsafe {
@@ -341,6 +396,14 @@ pub fn scan_next(scan: Scan, starts: &[i64], ends: &[u64], steps: &[i16]) -> Mov
 }
 
 /// To the first element from here on that is not below the target, or none; or refused 100, 1, 2, 3, 6, 7.
+///
+/// ```
+/// use loftsplice::raw;
+///
+/// let scan = raw::scan_new(&[10, 30], &[4, 5], &[5, 0]).scan;
+/// let moved = raw::scan_seek(scan, &[10, 30], &[4, 5], &[5, 0], 16);
+/// assert_eq!((moved.answer.value, moved.scan.index), (20, 2));
+/// ```
 pub fn scan_seek(scan: Scan, starts: &[i64], ends: &[u64], steps: &[i16], target: i64) -> Moved {
     // SAFETY: each pointer and length are those of a slice that is borrowed for the whole call, and every number is allowed.
     unsafe {
@@ -358,6 +421,14 @@ pub fn scan_seek(scan: Scan, starts: &[i64], ends: &[u64], steps: &[i16], target
 }
 
 /// To another window of the column, fresh, answering none; or refused 100, 1, 2, 3, 6, 5.
+///
+/// ```
+/// use loftsplice::raw;
+///
+/// let scan = raw::scan_new(&[10, 30], &[4, 5], &[5, 0]).scan;
+/// assert_eq!(raw::scan_narrow(scan, &[10, 30], &[4, 5], &[5, 0], 1, 3).scan.start, 1);
+/// assert_eq!(raw::scan_narrow(scan, &[10, 30], &[4, 5], &[5, 0], 1, 6).answer.refusal, 5);
+/// ```
 pub fn scan_narrow(
     scan: Scan,
     starts: &[i64],
@@ -383,6 +454,13 @@ pub fn scan_narrow(
 }
 
 /// Fresh in the same window, answering none; or refused 100, 1, 2, 3, 6.
+///
+/// ```
+/// use loftsplice::raw;
+///
+/// let scan = raw::Scan { start: 1, end: 3, index: 2, state: raw::AT };
+/// assert_eq!(raw::scan_reset(scan, &[10, 30], &[4, 5], &[5, 0]).scan.state, raw::FRESH);
+/// ```
 pub fn scan_reset(scan: Scan, starts: &[i64], ends: &[u64], steps: &[i16]) -> Moved {
     // SAFETY: each pointer and length are those of a slice that is borrowed for the whole call, and every number is allowed.
     unsafe {
@@ -399,6 +477,13 @@ pub fn scan_reset(scan: Scan, starts: &[i64], ends: &[u64], steps: &[i16]) -> Mo
 }
 
 /// The element that the scan is at, or none; or refused 100, 1, 2, 3, 6.
+///
+/// ```
+/// use loftsplice::raw;
+///
+/// let scan = raw::Scan { start: 1, end: 3, index: 2, state: raw::AT };
+/// assert_eq!(raw::scan_current(scan, &[10, 30], &[4, 5], &[5, 0]).value, 20);
+/// ```
 pub fn scan_current(scan: Scan, starts: &[i64], ends: &[u64], steps: &[i16]) -> Answer {
     // SAFETY: each pointer and length are those of a slice that is borrowed for the whole call, and every number is allowed.
     unsafe {
@@ -415,6 +500,14 @@ pub fn scan_current(scan: Scan, starts: &[i64], ends: &[u64], steps: &[i16]) -> 
 }
 
 /// The index that the scan is at, or none; or refused 100, 1, 2, 3, 6.
+///
+/// ```
+/// use loftsplice::raw;
+///
+/// let scan = raw::Scan { start: 1, end: 3, index: 2, state: raw::AT };
+/// assert_eq!(raw::scan_pos(scan, &[10, 30], &[4, 5], &[5, 0]).index, 2);
+/// assert_eq!(raw::scan_pos(raw::Scan { index: 3, ..scan }, &[10, 30], &[4, 5], &[5, 0]).refusal, 6);
+/// ```
 pub fn scan_pos(scan: Scan, starts: &[i64], ends: &[u64], steps: &[i16]) -> Position {
     // SAFETY: each pointer and length are those of a slice that is borrowed for the whole call, and every number is allowed.
     unsafe {
@@ -431,6 +524,14 @@ pub fn scan_pos(scan: Scan, starts: &[i64], ends: &[u64], steps: &[i16]) -> Posi
 }
 
 /// A filter over a scan, its constant bounds (a value and a kind each) folded; or refused 100, 8.
+///
+/// ```
+/// use loftsplice::raw;
+///
+/// let scan = raw::scan_new(&[10, 30], &[4, 5], &[5, 0]).scan;
+/// let made = raw::filter_new(scan, &[10, 15], &[1, 2], &[], &[]);
+/// assert_eq!(made.filter.lower, raw::Limit { value: 15, kind: raw::EXCLUSIVE });
+/// ```
 pub fn filter_new(
     scan: Scan,
     lower_values: &[i64],
@@ -455,6 +556,15 @@ pub fn filter_new(
 }
 
 /// To the next element that meets the bounds, or none; or refused 100, 1, 2, 3, 6, 8, 7, 9.
+///
+/// ```
+/// use loftsplice::raw;
+///
+/// let scan = raw::scan_new(&[10, 30], &[4, 5], &[5, 0]).scan;
+/// let filter = raw::filter_new(scan, &[15], &[2], &[], &[]).filter;
+/// let sifted = raw::filter_next(filter, &[10, 30], &[4, 5], &[5, 0], raw::Variables::default());
+/// assert_eq!((sifted.answer.value, sifted.filter.state), (20, raw::WITHIN));
+/// ```
 pub fn filter_next(
     filter: Filter,
     starts: &[i64],
@@ -489,6 +599,15 @@ pub fn filter_next(
 }
 
 /// To the first element from here on that meets the bounds and is not below the target, or none; or refused 100, 1, 2, 3, 6, 8, 7, 9.
+///
+/// ```
+/// use loftsplice::raw;
+///
+/// let scan = raw::scan_new(&[10, 30], &[4, 5], &[5, 0]).scan;
+/// let filter = raw::filter_new(scan, &[10], &[2], &[], &[]).filter;
+/// let sifted = raw::filter_seek(filter, &[10, 30], &[4, 5], &[5, 0], 21, raw::Variables::default());
+/// assert_eq!(sifted.answer.value, 25);
+/// ```
 pub fn filter_seek(
     filter: Filter,
     starts: &[i64],
@@ -525,6 +644,14 @@ pub fn filter_seek(
 }
 
 /// The element that the filter stands on when within, else none; or refused 100, 1, 2, 3, 6.
+///
+/// ```
+/// use loftsplice::raw;
+///
+/// let scan = raw::scan_new(&[10, 30], &[4, 5], &[5, 0]).scan;
+/// let filter = raw::filter_new(scan, &[], &[], &[], &[]).filter;
+/// assert_eq!(raw::filter_current(filter, &[10, 30], &[4, 5], &[5, 0]).found, 0);
+/// ```
 pub fn filter_current(filter: Filter, starts: &[i64], ends: &[u64], steps: &[i16]) -> Answer {
     // SAFETY: each pointer and length are those of a slice that is borrowed for the whole call, and every number is allowed.
     unsafe {
@@ -541,6 +668,15 @@ pub fn filter_current(filter: Filter, starts: &[i64], ends: &[u64], steps: &[i16
 }
 
 /// Before again, the scan as it stands; or refused 100.
+///
+/// ```
+/// use loftsplice::raw;
+///
+/// let scan = raw::scan_new(&[10, 30], &[4, 5], &[5, 0]).scan;
+/// let filter = raw::filter_new(scan, &[], &[], &[], &[]).filter;
+/// assert_eq!(raw::filter_reset(filter).filter, filter);
+/// assert_eq!(raw::filter_reset(raw::Filter { state: 9, ..filter }).refusal, raw::FORM);
+/// ```
 pub fn filter_reset(filter: Filter) -> Reset {
     // SAFETY: only numbers are handed over, and every number is allowed.
     unsafe { loftsplice_filter_reset(filter) }
@@ -548,6 +684,15 @@ pub fn filter_reset(filter: Filter) -> Reset {
 
 /// Writes the values of each window that meet the constant bounds into `out`, window by window, and each window's number of values into `counts`;
 /// answers their sum. Or refused 100, 1, 2, 3, 8, 5, 7, 10.
+///
+/// ```
+/// use loftsplice::raw;
+///
+/// let (mut out, mut counts) = ([0i64; 8], [0u64; 2]);
+/// let listed = raw::list(&[10, 30], &[4, 5], &[5, 0], &[0, 2], &[5, 5], &[15], &[2], &[], &[], &mut out, &mut counts);
+/// assert_eq!((listed.refusal, listed.sum, counts), (0, 6, [3, 3]));
+/// assert_eq!(out, [20, 25, 30, 20, 25, 30, 0, 0]);
+/// ```
 // A window list, a bound list and an output are two lists each here, as they cross.
 #[allow(clippy::too_many_arguments)]
 pub fn list(
@@ -594,6 +739,15 @@ pub fn list(
 }
 
 /// Reads the record at the front of the bytes into the first places of the three lists; or refused 11, 13, 12, 10, 2, 3.
+///
+/// ```
+/// use loftsplice::raw;
+///
+/// let bytes = [16, 0, 0, 0, 1, 0, 10, 0, 0, 0, 0, 0, 0, 0, 251, 255, 2, 0, 0, 0];
+/// let (mut starts, mut ends, mut steps) = ([0i64; 1], [0u64; 1], [0i16; 1]);
+/// let read = raw::read_record(&bytes, &mut starts, &mut ends, &mut steps);
+/// assert_eq!((read.runs, read.used, starts, ends, steps), (1, 20, [10], [2], [-5]));
+/// ```
 pub fn read_record(
     bytes: &[u8],
     starts: &mut [i64],
@@ -617,6 +771,14 @@ pub fn read_record(
 }
 
 /// Writes a column's record into the first places of `out`; or refused 1, 2, 3, 10.
+///
+/// ```
+/// use loftsplice::raw;
+///
+/// let mut out = [0u8; 20];
+/// assert_eq!(raw::write_record(&[10], &[2], &[-5], &mut out), raw::Written { refusal: 0, bytes: 20 });
+/// assert_eq!(out[14..], [251, 255, 2, 0, 0, 0]);
+/// ```
 pub fn write_record(starts: &[i64], ends: &[u64], steps: &[i16], out: &mut [u8]) -> Written {
     // SAFETY: each pointer and length are those of a slice that is borrowed for the whole call, the one that is written of a slice borrowed for
     // writing, so that it overlaps with no other; and every number is allowed.
