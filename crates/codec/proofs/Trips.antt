@@ -13,7 +13,7 @@ use lib.Signed.{mag}
 use Rattle.keys.specs.Widths.{fitsIn, half64, half16}
 use Rattle.keys.proofs.Widths.{in-mag}
 use Rattle.meaning.specs.Refusals.{Gives, Number}
-use Rattle.meaning.specs.Column.{Column, lent, startOf, endOf, stepOf, endBefore, runs, endsOk, reachOk, sound}
+use Rattle.meaning.specs.Column.{Column, columnOf, startOf, endOf, stepOf, endBefore, runs, endsOk, reachOk, sound}
 use Rattle.meaning.specs.Parts.{joined}
 use Rattle.meaning.proofs.Calls.{check-fine}
 use Rattle.meaning.proofs.Judging.{Clear, gives-clear}
@@ -211,7 +211,7 @@ module _ (bytes : List ℕ) (starts ends steps : ℕ) (f : Found) (h : readOf by
 
 -- ---- "one run (10,-5,2) is stored as 10 00 00 00 01 00 0A 00 00 00 00 00 00 00 FB FF 02 00 00 00"
 
-pub example : recordOf (lent (pos 10 ∷ []) (2 ∷ []) (negsuc 4 ∷ []))
+pub example : recordOf (columnOf (pos 10 ∷ []) (2 ∷ []) (negsuc 4 ∷ []))
     ≡ 0x10 ∷ 0 ∷ 0 ∷ 0 ∷ 1 ∷ 0 ∷ 0x0A ∷ 0 ∷ 0 ∷ 0 ∷ 0 ∷ 0 ∷ 0 ∷ 0 ∷ 0xFB ∷ 0xFF ∷ 2 ∷ 0 ∷ 0 ∷ 0 ∷ []
 unfolding recordOf joined runBytes leBytes ofSigned endBefore
 example = refl

@@ -8,7 +8,7 @@ use lib.IntN.{ℤ}
 use Rattle.keys.specs.Widths.{half64}
 use Rattle.meaning.specs.declared.Refusal.the-variants.{Ends, Reach, Room, Cut, Kind, Size}
 use Rattle.meaning.specs.Refusals.{Said, Gives, Number, Trial, tried, also, judged}
-use Rattle.meaning.specs.Column.{Column, lent, startOf, endOf, stepOf, endBefore, runs, endsOk, reachOk}
+use Rattle.meaning.specs.Column.{Column, columnOf, startOf, endOf, stepOf, endBefore, runs, endsOk, reachOk}
 use Rattle.meaning.specs.Calls.{onColumn}
 use Rattle.meaning.specs.Parts.{joined, each}
 use Rattle.codec.specs.Bytes.{leVal, leBytes, decode, encode, bytesAt}
@@ -62,7 +62,7 @@ totalIn bytes (suc r) = totalIn bytes r + countIn bytes r
 
 -- the column of the first n runs, and of all
 abbrev pub columnTo : List ℕ → ℕ → Column
-columnTo bytes n = lent (each (startIn bytes) n) (each (λ r. totalIn bytes (suc r)) n) (each (stepIn bytes) n)
+columnTo bytes n = columnOf (each (startIn bytes) n) (each (λ r. totalIn bytes (suc r)) n) (each (stepIn bytes) n)
 
 abbrev pub columnIn : List ℕ → Column
 columnIn bytes = columnTo bytes (runsIn bytes)

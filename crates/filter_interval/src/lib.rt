@@ -1,6 +1,6 @@
 // The interval filter: the Rust's filter_interval.rs. It holds its scan by value.
 ghost use mathlib.Core.Path.{_≡_};
-ghost use Rattle.meaning.specs.Column.{lent, sourceOf};
+ghost use Rattle.meaning.specs.Contracts.{source};
 ghost use Rattle.loftsplice.specs.Scan.{saysAnswer};
 ghost use Rattle.filter_interval.specs.Filter.{saysFitted, siftingOf, Next, Seek, fitOf, callOf, filterCurrentOf, filterResetOf};
 ghost use Rattle.filter_interval.specs.Inner.{noneOrRefused};
@@ -89,7 +89,7 @@ impl Filter {
         upper: Variables,
         inputs: Inputs,
     ) -> Sifted
-        ensures { λ r. ⌜ siftingOf r ≡ callOf (sourceOf (lent (now (starts .entry)) (now (ends .entry)) (now (steps .entry)))) (record { move = Next; lower = lower; upper = upper; inputs = inputs }) self ⌝ }
+        ensures { λ r. ⌜ siftingOf r ≡ callOf (source starts ends steps) (record { move = Next; lower = lower; upper = upper; inputs = inputs }) self ⌝ }
     {
         let step = Step::Next;
         sift(self, starts, ends, steps, step, lower, upper, inputs)
@@ -106,7 +106,7 @@ impl Filter {
         upper: Variables,
         inputs: Inputs,
     ) -> Sifted
-        ensures { λ r. ⌜ siftingOf r ≡ callOf (sourceOf (lent (now (starts .entry)) (now (ends .entry)) (now (steps .entry)))) (record { move = Seek target; lower = lower; upper = upper; inputs = inputs }) self ⌝ }
+        ensures { λ r. ⌜ siftingOf r ≡ callOf (source starts ends steps) (record { move = Seek target; lower = lower; upper = upper; inputs = inputs }) self ⌝ }
     {
         let step = Step::Seek(target);
         sift(self, starts, ends, steps, step, lower, upper, inputs)
@@ -114,7 +114,7 @@ impl Filter {
 
     // The element that the filter stands on, or none; or refused 1, 2, 3, 6.
     pub fn current(self, starts: &[i64], ends: &[u64], steps: &[i16]) -> Answer
-        ensures { λ r. ⌜ saysAnswer r ≡ filterCurrentOf (sourceOf (lent (now (starts .entry)) (now (ends .entry)) (now (steps .entry)))) self ⌝ }
+        ensures { λ r. ⌜ saysAnswer r ≡ filterCurrentOf (source starts ends steps) self ⌝ }
     {
         let scan = self.scan;
         let state = self.state;

@@ -2,7 +2,7 @@
 ghost use mathlib.Core.Path.{_≡_};
 ghost use mathlib.Core.Bool.{false, _||_};
 ghost use lib.Dec.{ltb};
-ghost use Rattle.meaning.specs.Column.{lent, sourceOf};
+ghost use Rattle.meaning.specs.Contracts.{source};
 ghost use Rattle.loftsplice.specs.Scan.{outcomeOf};
 ghost use Rattle.loftsplice.specs.Lead.{leadOf};
 ghost use Rattle.filter_interval.specs.declared.FilterState.the-variants.{Before};
@@ -199,7 +199,7 @@ fn lead_on(
     many: bool,
     asked: Asked,
 ) -> Sifted
-    ensures { λ r. ⌜ siftingOf r ≡ settled filter (asked .upper) (leadOf (sourceOf (lent (now (starts .entry)) (now (ends .entry)) (now (steps .entry)))) many (asked .unread) (asked .lead) (filter .scan)) ⌝ }
+    ensures { λ r. ⌜ siftingOf r ≡ settled filter (asked .upper) (leadOf (source starts ends steps) many (asked .unread) (asked .lead) (filter .scan)) ⌝ }
 {
     let scan = filter.scan;
     let unread = asked.unread;
@@ -220,7 +220,7 @@ pub(crate) fn sift(
     upper: Variables,
     inputs: Inputs,
 ) -> Sifted
-    ensures { λ r. ⌜ siftingOf r ≡ callOf (sourceOf (lent (now (starts .entry)) (now (ends .entry)) (now (steps .entry)))) (callFor step lower upper inputs) filter ⌝ }
+    ensures { λ r. ⌜ siftingOf r ≡ callOf (source starts ends steps) (callFor step lower upper inputs) filter ⌝ }
 {
     let lows = lower.count;
     let ups = upper.count;

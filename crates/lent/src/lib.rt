@@ -1,7 +1,7 @@
 // The calls of a scan that is lent for writing and moved where it stands, as in the Rust: each is thin over the call by value of the same name.
 // A refusal leaves the scan as lent. Above each is one with plain parameters, which lends a scan of its own: whoever calls that lends nothing.
 ghost use mathlib.Core.Path.{_≡_};
-ghost use Rattle.meaning.specs.Column.{lent, sourceOf};
+ghost use Rattle.meaning.specs.Contracts.{source};
 ghost use Rattle.loftsplice.specs.Scan.{saysAnswer, outcomeOf, nextOf, seekOf, narrowOf, resetOf};
 use loftsplice::scan::Moved;
 use loftsplice::scan::Scan;
@@ -9,7 +9,7 @@ use meaning::Answer;
 
 // The next element, or none; or refused 1, 2, 3, 6: `Scan::next`, where the scan stands.
 pub fn next(scan: &mut Scan, starts: &[i64], ends: &[u64], steps: &[i16]) -> Answer
-    ensures { λ r. ⌜ (saysAnswer r ≡ nextOf (sourceOf (lent (now (starts .entry)) (now (ends .entry)) (now (steps .entry)))) (now (scan .entry)) .said) × (now (scan .exit) ≡ nextOf (sourceOf (lent (now (starts .entry)) (now (ends .entry)) (now (steps .entry)))) (now (scan .entry)) .scan) ⌝ }
+    ensures { λ r. ⌜ (saysAnswer r ≡ nextOf (source starts ends steps) (now (scan .entry)) .said) × (now (scan .exit) ≡ nextOf (source starts ends steps) (now (scan .entry)) .scan) ⌝ }
 {
     let s = *scan;
     let m = s.next(starts, ends, steps);
@@ -19,7 +19,7 @@ pub fn next(scan: &mut Scan, starts: &[i64], ends: &[u64], steps: &[i16]) -> Ans
 
 // `next` on a scan that is lent here.
 pub fn lend_next(scan: Scan, starts: &[i64], ends: &[u64], steps: &[i16]) -> Moved
-    ensures { λ r. ⌜ outcomeOf r ≡ nextOf (sourceOf (lent (now (starts .entry)) (now (ends .entry)) (now (steps .entry)))) scan ⌝ }
+    ensures { λ r. ⌜ outcomeOf r ≡ nextOf (source starts ends steps) scan ⌝ }
 {
     let mut s = scan;
     let a = next(&mut s, starts, ends, steps);
@@ -28,7 +28,7 @@ pub fn lend_next(scan: Scan, starts: &[i64], ends: &[u64], steps: &[i16]) -> Mov
 
 // The first element from the current index on that is not below the target, or none; or refused 1, 2, 3, 6, 7: `Scan::seek`, where the scan stands.
 pub fn seek(scan: &mut Scan, starts: &[i64], ends: &[u64], steps: &[i16], target: i64) -> Answer
-    ensures { λ r. ⌜ (saysAnswer r ≡ seekOf (sourceOf (lent (now (starts .entry)) (now (ends .entry)) (now (steps .entry)))) target (now (scan .entry)) .said) × (now (scan .exit) ≡ seekOf (sourceOf (lent (now (starts .entry)) (now (ends .entry)) (now (steps .entry)))) target (now (scan .entry)) .scan) ⌝ }
+    ensures { λ r. ⌜ (saysAnswer r ≡ seekOf (source starts ends steps) target (now (scan .entry)) .said) × (now (scan .exit) ≡ seekOf (source starts ends steps) target (now (scan .entry)) .scan) ⌝ }
 {
     let s = *scan;
     let m = s.seek(starts, ends, steps, target);
@@ -38,7 +38,7 @@ pub fn seek(scan: &mut Scan, starts: &[i64], ends: &[u64], steps: &[i16], target
 
 // `seek` on a scan that is lent here.
 pub fn lend_seek(scan: Scan, starts: &[i64], ends: &[u64], steps: &[i16], target: i64) -> Moved
-    ensures { λ r. ⌜ outcomeOf r ≡ seekOf (sourceOf (lent (now (starts .entry)) (now (ends .entry)) (now (steps .entry)))) target scan ⌝ }
+    ensures { λ r. ⌜ outcomeOf r ≡ seekOf (source starts ends steps) target scan ⌝ }
 {
     let mut s = scan;
     let a = seek(&mut s, starts, ends, steps, target);
@@ -54,7 +54,7 @@ pub fn narrow(
     start: u64,
     end: u64,
 ) -> Answer
-    ensures { λ r. ⌜ (saysAnswer r ≡ narrowOf (sourceOf (lent (now (starts .entry)) (now (ends .entry)) (now (steps .entry)))) start end (now (scan .entry)) .said) × (now (scan .exit) ≡ narrowOf (sourceOf (lent (now (starts .entry)) (now (ends .entry)) (now (steps .entry)))) start end (now (scan .entry)) .scan) ⌝ }
+    ensures { λ r. ⌜ (saysAnswer r ≡ narrowOf (source starts ends steps) start end (now (scan .entry)) .said) × (now (scan .exit) ≡ narrowOf (source starts ends steps) start end (now (scan .entry)) .scan) ⌝ }
 {
     let s = *scan;
     let m = s.narrow(starts, ends, steps, start, end);
@@ -71,7 +71,7 @@ pub fn lend_narrow(
     start: u64,
     end: u64,
 ) -> Moved
-    ensures { λ r. ⌜ outcomeOf r ≡ narrowOf (sourceOf (lent (now (starts .entry)) (now (ends .entry)) (now (steps .entry)))) start end scan ⌝ }
+    ensures { λ r. ⌜ outcomeOf r ≡ narrowOf (source starts ends steps) start end scan ⌝ }
 {
     let mut s = scan;
     let a = narrow(&mut s, starts, ends, steps, start, end);
@@ -80,7 +80,7 @@ pub fn lend_narrow(
 
 // The same window, before its first element; or refused 1, 2, 3, 6: `Scan::reset`, where the scan stands.
 pub fn reset(scan: &mut Scan, starts: &[i64], ends: &[u64], steps: &[i16]) -> Answer
-    ensures { λ r. ⌜ (saysAnswer r ≡ resetOf (sourceOf (lent (now (starts .entry)) (now (ends .entry)) (now (steps .entry)))) (now (scan .entry)) .said) × (now (scan .exit) ≡ resetOf (sourceOf (lent (now (starts .entry)) (now (ends .entry)) (now (steps .entry)))) (now (scan .entry)) .scan) ⌝ }
+    ensures { λ r. ⌜ (saysAnswer r ≡ resetOf (source starts ends steps) (now (scan .entry)) .said) × (now (scan .exit) ≡ resetOf (source starts ends steps) (now (scan .entry)) .scan) ⌝ }
 {
     let s = *scan;
     let m = s.reset(starts, ends, steps);
@@ -90,7 +90,7 @@ pub fn reset(scan: &mut Scan, starts: &[i64], ends: &[u64], steps: &[i16]) -> An
 
 // `reset` on a scan that is lent here.
 pub fn lend_reset(scan: Scan, starts: &[i64], ends: &[u64], steps: &[i16]) -> Moved
-    ensures { λ r. ⌜ outcomeOf r ≡ resetOf (sourceOf (lent (now (starts .entry)) (now (ends .entry)) (now (steps .entry)))) scan ⌝ }
+    ensures { λ r. ⌜ outcomeOf r ≡ resetOf (source starts ends steps) scan ⌝ }
 {
     let mut s = scan;
     let a = reset(&mut s, starts, ends, steps);

@@ -1,6 +1,6 @@
 // The calls on a filter.
 ghost use mathlib.Core.Path.{_≡_};
-ghost use Rattle.meaning.specs.Column.{lent, sourceOf};
+ghost use Rattle.meaning.specs.Contracts.{source};
 ghost use Rattle.filter_interval.specs.Filter.{Next, Seek, callOf, filterCurrentOf};
 ghost use Rattle.loftsplice_c.specs.Answer.{flatAnswer};
 ghost use Rattle.loftsplice_c.specs.Filter.{askFit, flatNewFilter, goodLists, handed, callFilter, askFilter, flatReset};
@@ -60,7 +60,7 @@ pub extern "C" fn loftsplice_filter_next(
     values: &[i64],
     found: &[u8],
 ) -> FlatSifted
-    ensures { λ r. ⌜ r ≡ callFilter (goodLists (now (lows .entry)) (now (lowkinds .entry)) (now (ups .entry)) (now (upkinds .entry)) (now (values .entry)) (now (found .entry))) filter (callOf (sourceOf (lent (now (starts .entry)) (now (ends .entry)) (now (steps .entry)))) (handed Next (now (lows .entry)) (now (lowkinds .entry)) (now (ups .entry)) (now (upkinds .entry)) (now (values .entry)) (now (found .entry)))) ⌝ }
+    ensures { λ r. ⌜ r ≡ callFilter (goodLists (now (lows .entry)) (now (lowkinds .entry)) (now (ups .entry)) (now (upkinds .entry)) (now (values .entry)) (now (found .entry))) filter (callOf (source starts ends steps) (handed Next (now (lows .entry)) (now (lowkinds .entry)) (now (ups .entry)) (now (upkinds .entry)) (now (values .entry)) (now (found .entry)))) ⌝ }
 {
     if is_call(
         filter,
@@ -97,7 +97,7 @@ pub extern "C" fn loftsplice_filter_seek(
     values: &[i64],
     found: &[u8],
 ) -> FlatSifted
-    ensures { λ r. ⌜ r ≡ callFilter (goodLists (now (lows .entry)) (now (lowkinds .entry)) (now (ups .entry)) (now (upkinds .entry)) (now (values .entry)) (now (found .entry))) filter (callOf (sourceOf (lent (now (starts .entry)) (now (ends .entry)) (now (steps .entry)))) (handed (Seek target) (now (lows .entry)) (now (lowkinds .entry)) (now (ups .entry)) (now (upkinds .entry)) (now (values .entry)) (now (found .entry)))) ⌝ }
+    ensures { λ r. ⌜ r ≡ callFilter (goodLists (now (lows .entry)) (now (lowkinds .entry)) (now (ups .entry)) (now (upkinds .entry)) (now (values .entry)) (now (found .entry))) filter (callOf (source starts ends steps) (handed (Seek target) (now (lows .entry)) (now (lowkinds .entry)) (now (ups .entry)) (now (upkinds .entry)) (now (values .entry)) (now (found .entry)))) ⌝ }
 {
     if is_call(
         filter,
@@ -127,7 +127,7 @@ pub extern "C" fn loftsplice_filter_current(
     ends: &[u64],
     steps: &[i16],
 ) -> FlatAnswer
-    ensures { λ r. ⌜ r ≡ flatAnswer (askFilter filter (filterCurrentOf (sourceOf (lent (now (starts .entry)) (now (ends .entry)) (now (steps .entry)))))) ⌝ }
+    ensures { λ r. ⌜ r ≡ flatAnswer (askFilter filter (filterCurrentOf (source starts ends steps))) ⌝ }
 {
     if is_filter(filter) {
         flat_answer(filter_of(filter).current(starts, ends, steps))

@@ -1,7 +1,8 @@
 // The batch listing.
 ghost use mathlib.Core.Path.{_≡_};
 ghost use lib.ListN.{length};
-ghost use Rattle.meaning.specs.Column.{lent, sourceOf, sequenceOf};
+ghost use Rattle.meaning.specs.Column.{sequenceOf};
+ghost use Rattle.meaning.specs.Contracts.{column, source};
 ghost use Rattle.meaning.specs.Outputs.{after};
 ghost use Rattle.loftsplice.specs.Listing.{saysListed};
 ghost use Rattle.loftsplice_c.specs.Listing.{flatListed, askList, listValues, listCounts};
@@ -45,9 +46,9 @@ pub extern "C" fn loftsplice_list(
     out: &mut [i64],
     counts: &mut [u64],
 ) -> FlatListed
-    ensures { λ r. ⌜ r ≡ flatListed (askList (now (from .entry)) (now (to .entry)) (now (lows .entry)) (now (lowkinds .entry)) (now (ups .entry)) (now (upkinds .entry)) (sourceOf (lent (now (starts .entry)) (now (ends .entry)) (now (steps .entry)))) (length (now (out .entry))) (length (now (counts .entry)))) ⌝ }
-    ensures { λ r. ⌜ now (out .exit) ≡ after (askList (now (from .entry)) (now (to .entry)) (now (lows .entry)) (now (lowkinds .entry)) (now (ups .entry)) (now (upkinds .entry)) (sourceOf (lent (now (starts .entry)) (now (ends .entry)) (now (steps .entry)))) (length (now (out .entry))) (length (now (counts .entry)))) (listValues (now (from .entry)) (now (to .entry)) (now (lows .entry)) (now (lowkinds .entry)) (now (ups .entry)) (now (upkinds .entry)) (sequenceOf (lent (now (starts .entry)) (now (ends .entry)) (now (steps .entry))))) (now (out .entry)) ⌝ }
-    ensures { λ r. ⌜ now (counts .exit) ≡ after (askList (now (from .entry)) (now (to .entry)) (now (lows .entry)) (now (lowkinds .entry)) (now (ups .entry)) (now (upkinds .entry)) (sourceOf (lent (now (starts .entry)) (now (ends .entry)) (now (steps .entry)))) (length (now (out .entry))) (length (now (counts .entry)))) (listCounts (now (from .entry)) (now (to .entry)) (now (lows .entry)) (now (lowkinds .entry)) (now (ups .entry)) (now (upkinds .entry)) (sequenceOf (lent (now (starts .entry)) (now (ends .entry)) (now (steps .entry))))) (now (counts .entry)) ⌝ }
+    ensures { λ r. ⌜ r ≡ flatListed (askList (now (from .entry)) (now (to .entry)) (now (lows .entry)) (now (lowkinds .entry)) (now (ups .entry)) (now (upkinds .entry)) (source starts ends steps) (length (now (out .entry))) (length (now (counts .entry)))) ⌝ }
+    ensures { λ r. ⌜ now (out .exit) ≡ after (askList (now (from .entry)) (now (to .entry)) (now (lows .entry)) (now (lowkinds .entry)) (now (ups .entry)) (now (upkinds .entry)) (source starts ends steps) (length (now (out .entry))) (length (now (counts .entry)))) (listValues (now (from .entry)) (now (to .entry)) (now (lows .entry)) (now (lowkinds .entry)) (now (ups .entry)) (now (upkinds .entry)) (sequenceOf (column starts ends steps))) (now (out .entry)) ⌝ }
+    ensures { λ r. ⌜ now (counts .exit) ≡ after (askList (now (from .entry)) (now (to .entry)) (now (lows .entry)) (now (lowkinds .entry)) (now (ups .entry)) (now (upkinds .entry)) (source starts ends steps) (length (now (out .entry))) (length (now (counts .entry)))) (listCounts (now (from .entry)) (now (to .entry)) (now (lows .entry)) (now (lowkinds .entry)) (now (ups .entry)) (now (upkinds .entry)) (sequenceOf (column starts ends steps))) (now (counts .entry)) ⌝ }
 {
     if are_bounds(lows.len(), lowkinds, ups.len(), upkinds) {
         let lower = bounds_of(lows, lowkinds);

@@ -1,7 +1,7 @@
 // A scan as numbers, and the calls on it.
 ghost use mathlib.Core.Path.{_≡_};
 ghost use Rattle.meaning.specs.Refusals.{Number};
-ghost use Rattle.meaning.specs.Column.{lent, sourceOf};
+ghost use Rattle.meaning.specs.Contracts.{source};
 ghost use Rattle.loftsplice.specs.Scan.{outcomeOf, saysPosition, newOf, nextOf, seekOf, narrowOf, resetOf, currentOf, posOf};
 ghost use Rattle.loftsplice_c.specs.Flat.{form};
 ghost use Rattle.loftsplice_c.specs.Answer.{flatAnswer};
@@ -163,7 +163,7 @@ pub(crate) fn bad_form() -> FlatAnswer
 // "A new scan has the whole column"; or refused 1, 2, 3.
 #[no_mangle]
 pub extern "C" fn loftsplice_scan_new(starts: &[i64], ends: &[u64], steps: &[i16]) -> FlatNewScan
-    ensures { λ r. ⌜ r ≡ flatNewScan (newOf (sourceOf (lent (now (starts .entry)) (now (ends .entry)) (now (steps .entry))))) ⌝ }
+    ensures { λ r. ⌜ r ≡ flatNewScan (newOf (source starts ends steps)) ⌝ }
 {
     let made = Scan::new(starts, ends, steps);
     match made {
@@ -191,7 +191,7 @@ pub extern "C" fn loftsplice_scan_next(
     ends: &[u64],
     steps: &[i16],
 ) -> FlatMoved
-    ensures { λ r. ⌜ r ≡ callScan scan (nextOf (sourceOf (lent (now (starts .entry)) (now (ends .entry)) (now (steps .entry))))) ⌝ }
+    ensures { λ r. ⌜ r ≡ callScan scan (nextOf (source starts ends steps)) ⌝ }
 {
     if is_state(scan.state) {
         let moved = scan_of(scan).next(starts, ends, steps);
@@ -211,7 +211,7 @@ pub extern "C" fn loftsplice_scan_seek(
     steps: &[i16],
     target: i64,
 ) -> FlatMoved
-    ensures { λ r. ⌜ r ≡ callScan scan (seekOf (sourceOf (lent (now (starts .entry)) (now (ends .entry)) (now (steps .entry)))) target) ⌝ }
+    ensures { λ r. ⌜ r ≡ callScan scan (seekOf (source starts ends steps) target) ⌝ }
 {
     if is_state(scan.state) {
         let moved = scan_of(scan).seek(starts, ends, steps, target);
@@ -232,7 +232,7 @@ pub extern "C" fn loftsplice_scan_narrow(
     start: u64,
     end: u64,
 ) -> FlatMoved
-    ensures { λ r. ⌜ r ≡ callScan scan (narrowOf (sourceOf (lent (now (starts .entry)) (now (ends .entry)) (now (steps .entry)))) start end) ⌝ }
+    ensures { λ r. ⌜ r ≡ callScan scan (narrowOf (source starts ends steps) start end) ⌝ }
 {
     if is_state(scan.state) {
         let moved = scan_of(scan).narrow(starts, ends, steps, start, end);
@@ -251,7 +251,7 @@ pub extern "C" fn loftsplice_scan_reset(
     ends: &[u64],
     steps: &[i16],
 ) -> FlatMoved
-    ensures { λ r. ⌜ r ≡ callScan scan (resetOf (sourceOf (lent (now (starts .entry)) (now (ends .entry)) (now (steps .entry))))) ⌝ }
+    ensures { λ r. ⌜ r ≡ callScan scan (resetOf (source starts ends steps)) ⌝ }
 {
     if is_state(scan.state) {
         let moved = scan_of(scan).reset(starts, ends, steps);
@@ -270,7 +270,7 @@ pub extern "C" fn loftsplice_scan_current(
     ends: &[u64],
     steps: &[i16],
 ) -> FlatAnswer
-    ensures { λ r. ⌜ r ≡ flatAnswer (askScan scan (currentOf (sourceOf (lent (now (starts .entry)) (now (ends .entry)) (now (steps .entry)))))) ⌝ }
+    ensures { λ r. ⌜ r ≡ flatAnswer (askScan scan (currentOf (source starts ends steps))) ⌝ }
 {
     if is_state(scan.state) {
         flat_answer(scan_of(scan).current(starts, ends, steps))
@@ -287,7 +287,7 @@ pub extern "C" fn loftsplice_scan_pos(
     ends: &[u64],
     steps: &[i16],
 ) -> FlatPosition
-    ensures { λ r. ⌜ r ≡ flatPosition (askScan scan (posOf (sourceOf (lent (now (starts .entry)) (now (ends .entry)) (now (steps .entry)))))) ⌝ }
+    ensures { λ r. ⌜ r ≡ flatPosition (askScan scan (posOf (source starts ends steps))) ⌝ }
 {
     if is_state(scan.state) {
         flat_position(scan_of(scan).pos(starts, ends, steps))

@@ -1,7 +1,7 @@
 // The stored record.
 ghost use mathlib.Core.Path.{_≡_};
 ghost use lib.ListN.{length};
-ghost use Rattle.meaning.specs.Column.{lent};
+ghost use Rattle.meaning.specs.Contracts.{column};
 ghost use Rattle.meaning.specs.Outputs.{after};
 ghost use Rattle.codec.specs.Record.{recordOf, writeOf, columnIn, readOf};
 ghost use Rattle.record.specs.Says.{saysRead, saysWritten};
@@ -84,8 +84,8 @@ pub extern "C" fn loftsplice_write_record(
     steps: &[i16],
     out: &mut [u8],
 ) -> FlatWritten
-    ensures { λ r. ⌜ r ≡ flatWritten (writeOf (lent (now (starts .entry)) (now (ends .entry)) (now (steps .entry))) (length (now (out .entry)))) ⌝ }
-    ensures { λ r. ⌜ now (out .exit) ≡ after (writeOf (lent (now (starts .entry)) (now (ends .entry)) (now (steps .entry))) (length (now (out .entry)))) (recordOf (lent (now (starts .entry)) (now (ends .entry)) (now (steps .entry)))) (now (out .entry)) ⌝ }
+    ensures { λ r. ⌜ r ≡ flatWritten (writeOf (column starts ends steps) (length (now (out .entry)))) ⌝ }
+    ensures { λ r. ⌜ now (out .exit) ≡ after (writeOf (column starts ends steps) (length (now (out .entry)))) (recordOf (column starts ends steps)) (now (out .entry)) ⌝ }
 {
     let answer = write(starts, ends, steps, out);
     flat_written(answer)

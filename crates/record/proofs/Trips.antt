@@ -8,7 +8,7 @@ use lib.ListN.{length, take, drop}
 use lib.Seq.{take-at}
 use lib.IntN.{ℤ}
 use Rattle.meaning.specs.Refusals.{Gives}
-use Rattle.meaning.specs.Column.{Column, lent, runs, sound}
+use Rattle.meaning.specs.Column.{Column, columnOf, runs, sound}
 use Rattle.meaning.specs.Outputs.{after}
 use Rattle.meaning.proofs.Parts.{each-length}
 use Rattle.meaning.proofs.Soundness.{sound-parts}
@@ -56,13 +56,13 @@ read-after-write c out out′ n held w starts ends steps ls le lt r starts′ en
 pub write-after-read : (bytes : List ℕ) (starts : List ℤ) (ends : List ℕ) (steps : List ℤ) (n used : ℕ) (starts′ : List ℤ) (ends′ : List ℕ) (steps′ : List ℤ)
     → AllBytes bytes → ReadMeets bytes starts ends steps (Runs n used) starts′ ends′ steps′
     → (out : List ℕ) → used ≤ length out
-    → (w : Written) (out′ : List ℕ) → WriteMeets (lent (take n starts′) (take n ends′) (take n steps′)) out w out′
+    → (w : Written) (out′ : List ℕ) → WriteMeets (columnOf (take n starts′) (take n ends′) (take n steps′)) out w out′
     → (w ≡ Bytes used) × (out′ ≡ take used bytes ++ drop used out)
 write-after-read bytes starts ends steps n used starts′ ends′ steps′ all m out room w out′ v =
     let accepted = sym (m .said) in
     let is = found-is bytes (length starts) (length ends) (length steps) (record { count = n; used = used }) accepted in
     let count : runsIn bytes ≡ n = sym (ap (λ f. f .count) is) in
-    let col : lent (take n starts′) (take n ends′) (take n steps′) ≡ columnIn bytes = same-column _ (columnIn bytes)
+    let col : columnOf (take n starts′) (take n ends′) (take n steps′) ≡ columnIn bytes = same-column _ (columnIn bytes)
     (ap (take n) (m .starts-are) ∙ take-at (columnIn bytes .starts) _ n (each-length (startIn bytes) (runsIn bytes) ∙ count))
     (ap (take n) (m .ends-are) ∙ take-at (columnIn bytes .ends) _ n (runs-are bytes (runsIn bytes) ∙ count))
     (ap (take n) (m .steps-are) ∙ take-at (columnIn bytes .steps) _ n (each-length (stepIn bytes) (runsIn bytes) ∙ count)) in

@@ -1,7 +1,7 @@
 // The stored record: a column as bytes, and bytes as a column. Both calls try all before they write anything.
 ghost use mathlib.Core.Path.{_≡_};
 ghost use lib.ListN.{length};
-ghost use Rattle.meaning.specs.Column.{lent};
+ghost use Rattle.meaning.specs.Contracts.{column};
 ghost use Rattle.meaning.specs.Outputs.{after};
 ghost use Rattle.codec.specs.Record.{recordOf, writeOf, columnIn, readOf};
 ghost use Rattle.record.specs.Says.{saysRead, saysWritten};
@@ -62,8 +62,8 @@ pub fn read(bytes: &[u8], starts: &mut [i64], ends: &mut [u64], steps: &mut [i16
 
 // The record of a column, into the first places of the output.
 pub fn write(starts: &[i64], ends: &[u64], steps: &[i16], out: &mut [u8]) -> Written
-    ensures { λ r. ⌜ saysWritten r ≡ writeOf (lent (now (starts .entry)) (now (ends .entry)) (now (steps .entry))) (length (now (out .entry))) ⌝ }
-    ensures { λ r. ⌜ now (out .exit) ≡ after (saysWritten r) (recordOf (lent (now (starts .entry)) (now (ends .entry)) (now (steps .entry)))) (now (out .entry)) ⌝ }
+    ensures { λ r. ⌜ saysWritten r ≡ writeOf (column starts ends steps) (length (now (out .entry))) ⌝ }
+    ensures { λ r. ⌜ now (out .exit) ≡ after (saysWritten r) (recordOf (column starts ends steps)) (now (out .entry)) ⌝ }
 {
     match check(starts, ends, steps) {
         Checked::Refused(why) => Written::Refused(why),

@@ -4,7 +4,8 @@ ghost use mathlib.Core.Bool.{true};
 ghost use Prim.Native.Nat.{_+_, _*_, _≤_, _<_};
 ghost use lib.ListN.{length};
 ghost use lib.Seq.{sets};
-ghost use Rattle.meaning.specs.Column.{lent, sound};
+ghost use Rattle.meaning.specs.Column.{sound};
+ghost use Rattle.meaning.specs.Contracts.{column, columnNow};
 ghost use Rattle.meaning.specs.Parts.{joined};
 ghost use Rattle.codec.specs.Record.{runBytes, runOut, recordOf};
 use crate::numbers::write_le;
@@ -23,9 +24,9 @@ fn write_run(out: &mut [u8], at: usize, start: i64, step: i16, count: u32)
 
 // Stores the runs of a column after the head.
 fn write_runs(starts: &[i64], ends: &[u64], steps: &[i16], out: &mut [u8])
-    requires { ⌜ sound (lent (now starts) (now ends) (now steps)) ≡ true ⌝ }
+    requires { ⌜ sound (columnNow starts ends steps) ≡ true ⌝ }
     requires { ⌜ 6 + 14 * length (now ends) ≤ length (now out) ⌝ }
-    ensures { λ _. ⌜ now (out .exit) ≡ sets (now (out .entry)) 6 (joined (runOut (lent (now (starts .entry)) (now (ends .entry)) (now (steps .entry)))) (length (now (ends .entry)))) ⌝ }
+    ensures { λ _. ⌜ now (out .exit) ≡ sets (now (out .entry)) 6 (joined (runOut (column starts ends steps)) (length (now (ends .entry)))) ⌝ }
 {
     let mut last = 0u64;
     let mut i = 0;
@@ -39,9 +40,9 @@ fn write_runs(starts: &[i64], ends: &[u64], steps: &[i16], out: &mut [u8])
 
 // Stores the record of a column.
 pub(crate) fn write_all(starts: &[i64], ends: &[u64], steps: &[i16], out: &mut [u8])
-    requires { ⌜ sound (lent (now starts) (now ends) (now steps)) ≡ true ⌝ }
+    requires { ⌜ sound (columnNow starts ends steps) ≡ true ⌝ }
     requires { ⌜ 6 + 14 * length (now ends) ≤ length (now out) ⌝ }
-    ensures { λ _. ⌜ now (out .exit) ≡ sets (now (out .entry)) 0 (recordOf (lent (now (starts .entry)) (now (ends .entry)) (now (steps .entry)))) ⌝ }
+    ensures { λ _. ⌜ now (out .exit) ≡ sets (now (out .entry)) 0 (recordOf (column starts ends steps)) ⌝ }
 {
     write_le(out, 0, 4, (2 + 14 * ends.len()) as u64);
     write_le(out, 4, 2, 1);

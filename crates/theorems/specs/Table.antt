@@ -6,7 +6,7 @@ use lib.ListN.{length}
 use lib.IntN.{ℤ, pos, negsuc}
 use Rattle.meaning.specs.Refusals.{Word, fine, Said, Gives, Number}
 use Rattle.meaning.specs.Sequence.{Source}
-use Rattle.meaning.specs.Column.{Column, lent, sizeOf, sourceOf}
+use Rattle.meaning.specs.Column.{Column, columnOf, sizeOf, sourceOf}
 use Rattle.meaning.specs.Calls.{Place, diffStepOf, checkOf, placeOf, getOf}
 use Rattle.loftsplice.specs.declared.scan.State.the-variants.{At}
 use Rattle.loftsplice.specs.declared.scan.Scan.{Scan}
@@ -274,7 +274,7 @@ table =
     ∷ own (scanAt C 9 (next ∷ [])) (scanned (Number 6 ∷ []) (Number 6))
     ∷ own (acts C (fresh 0 10) (next ∷ [])) (scanned (Number 6 ∷ []) (Number 6))
     -- arrays of unequal length; an end that is not above the one before; one over 4,294,967,295; what is refused first
-    ∷ own (checked (checkOf (lent (pos 1 ∷ []) (1 ∷ []) []))) (checked (Number 1))
+    ∷ own (checked (checkOf (columnOf (pos 1 ∷ []) (1 ∷ []) []))) (checked (Number 1))
     ∷ own (checked (checkOf (column (run 1 (pos 1) 3 ∷ run 9 (pos 1) 0 ∷ [])))) (checked (Number 2))
     ∷ own (checked (checkOf (column (run 1 (pos 0) 4294967295 ∷ [])))) (checked (Gives fine))
     ∷ own (checked (checkOf (column (run 1 (pos 0) 4294967296 ∷ [])))) (checked (Number 2))

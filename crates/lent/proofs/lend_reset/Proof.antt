@@ -40,7 +40,7 @@ use denote.Triple.Table.{entered, cited}
 use denote.Triple.Walked.{says, Stays, stay-none, stay-none-slice, walkOf, AllGo, goes-none, goes-none-slice, Walks, ends-at, walked, walk-meets}
 use denote.Exit.{yes}
 use Rattle.meaning.specs.Sequence.{Source}
-use Rattle.meaning.specs.Column.{lent, sourceOf}
+use Rattle.meaning.specs.Column.{columnOf, sourceOf}
 use Rattle.loftsplice.specs.declared.scan.Scan.{Scan}
 use Rattle.meaning.specs.declared.Answer.{Answer}
 use Rattle.loftsplice.specs.declared.scan.Moved.{Moved}
@@ -81,7 +81,7 @@ Callee 𝓤 H A mem run = tripleOf 𝓤 H A callee.signature (callee.spec 𝓤 H
 module _ {M : Type 1} (𝓤 : URA M) (H : Heap 𝓤) (A : Atoms 𝓤) (W : Given 𝓤 H A) (at-mem : Memory → SProp 𝓤) (run : Routine → Fun 𝓤)
     (κs : Lfts 3) (qs : Shares 3) (h : Scan) (starts : RefT (List ℤ)) (ends : RefT (List ℕ)) (steps : RefT (List ℤ)) where
   abbrev column : Source
-  column = sourceOf (lent (now starts) (now ends) (now steps))
+  column = sourceOf (columnOf (now starts) (now ends) (now steps))
 
   -- what the call promises of its answer and of the scan that was lent to it
   abbrev Said : Answer → Scan → Type 0

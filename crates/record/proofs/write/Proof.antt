@@ -2,7 +2,7 @@
 use mathlib.Core.Path.{_≡_, refl, _∙_}
 use mathlib.Core.Bool.{true}
 use native.Mathlib.Omega.{arith}
-use Rattle.meaning.specs.Column.{Column, lent, sound}
+use Rattle.meaning.specs.Column.{Column, columnOf, sound}
 use Rattle.meaning.proofs.Parts.{filled}
 use Rattle.meaning.proofs.Soundness.{sound-parts}
 use Rattle.codec.specs.Record.{recordOf}
@@ -13,7 +13,7 @@ use Rattle.record.proofs.write.Statement.{statement}
 use Rattle.record.proofs.write.Tie as tie
 
 abbrev col : tie.Start → Column
-col s = lent (s .args .starts .now) (s .args .ends .now) (s .args .steps .now)
+col s = columnOf (s .args .starts .now) (s .args .ends .now) (s .args .steps .now)
 
 -- the check passed
 fine : (c : tie.After-enum-told) → sound (col (c .before .before .before .before .before)) ≡ true

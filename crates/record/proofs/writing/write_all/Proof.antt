@@ -1,13 +1,13 @@
 -- `record::writing::write_all` meets its contract: the head, then the runs. Assumes nothing.
 use mathlib.Core.Path.{refl}
-use Rattle.meaning.specs.Column.{Column, lent}
+use Rattle.meaning.specs.Column.{Column, columnOf}
 use Rattle.codec.proofs.Writing.{record-stored}
 use borrow.Author.Needs.{needs}
 use Rattle.record.proofs.writing.write_all.Statement.{statement}
 use Rattle.record.proofs.writing.write_all.Tie as tie
 
 abbrev col : tie.Start → Column
-col s = lent (s .args .starts .now) (s .args .ends .now) (s .args .steps .now)
+col s = columnOf (s .args .starts .now) (s .args .ends .now) (s .args .steps .now)
 
 mul-write-le : tie.Need-mul-write-le
 mul-write-le c = search needs

@@ -7,7 +7,7 @@ use lib.IntN.{pos}
 use lib.Seq.{sets, length-sets}
 use mir.Syntax.{w16, w64}
 use Rattle.keys.proofs.Bits.{back}
-use Rattle.meaning.specs.Column.{Column, lent, endBefore}
+use Rattle.meaning.specs.Column.{Column, columnOf, endBefore}
 use Rattle.meaning.specs.Parts.{joined}
 use Rattle.meaning.proofs.Runs.{before-zero, before-next}
 use Rattle.meaning.proofs.Soundness.{Sound, sound-parts}
@@ -18,14 +18,14 @@ use Rattle.record.proofs.writing.write_runs.Statement.{statement}
 use Rattle.record.proofs.writing.write_runs.Tie as tie
 
 abbrev Inv-loop : tie.InvT-loop
-Inv-loop starts ends steps out₀ last₀ i₀ out last i = (i ≤ length ends) × (last ≡ endBefore ends i) × (out ≡ sets out₀ 6 (joined (runOut (lent starts ends steps)) i))
+Inv-loop starts ends steps out₀ last₀ i₀ out last i = (i ≤ length ends) × (last ≡ endBefore ends i) × (out ≡ sets out₀ 6 (joined (runOut (columnOf starts ends steps)) i))
 
 abbrev μ-loop : tie.MeasureT-loop
 μ-loop starts ends steps out₀ last₀ i₀ out last i = length ends - i
 
 -- the column is sound, and the output as long as it was
 abbrev col : tie.Start Inv-loop μ-loop → Column
-col s = lent (s .args .starts .now) (s .args .ends .now) (s .args .steps .now)
+col s = columnOf (s .args .starts .now) (s .args .ends .now) (s .args .steps .now)
 
 known : (s : tie.Start Inv-loop μ-loop) → Sound (col s)
 known s = sound-parts (col s) (s .pre .0)
