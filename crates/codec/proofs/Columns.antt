@@ -1,7 +1,7 @@
 -- The column in a record: its runs, and how a pass over them comes to what `checkOf` says. Assumes nothing.
 use Prim.Native.Nat.{ℕ, zero, suc, _+_, _-_, _≤_, _<_}
 use mathlib.Core.Path.{_≡_, refl, sym, ap, _∙_}
-use mathlib.Core.Bool.{Bool, true, false, _&&_}
+use mathlib.Core.Bool.{Bool, true, false, not, _&&_}
 use mathlib.Core.List.{List}
 use mathlib.Core.Logic.{_↔_}
 use native.Mathlib.Omega.{arith}
@@ -14,7 +14,7 @@ use Rattle.ranges.specs.Ranges.{allFor, allIn}
 use Rattle.ranges.proofs.Spans.{all-in, in-all, not-all-in, all-next}
 use Rattle.keys.specs.Widths.{fitsIn, half64}
 use Rattle.meaning.specs.Refusals.{Gives, Number, fine}
-use Rattle.meaning.specs.Column.{Column, startOf, endOf, stepOf, endBefore, runs, offset, shapeOk, endOk, endsOk, runOk, reachOk}
+use Rattle.meaning.specs.Column.{Column, startOf, endOf, stepOf, endBefore, runs, offset, shapeOk, endOk, endsOk, runOk, reachOk, sourceOf}
 use Rattle.meaning.specs.Calls.{checkOf}
 use Rattle.meaning.proofs.Parts.{each-length, each-at}
 use Rattle.meaning.proofs.Calls.{check-ends, check-reach, check-all}
@@ -87,9 +87,9 @@ module _ (bytes : List ℕ) (n : ℕ) where
   )
 
   -- an end that is wrong
-  wrong-end : n ≤ 4096 → (k : ℕ) → k < n → endOk (col .ends) k ≡ false → Number 2 ≡ checkOf col
+  wrong-end : n ≤ 4096 → (k : ℕ) → k < n → endOk (col .ends) k ≡ false → Number 2 ≡ checkOf (sourceOf col)
   unfolding endsOk
-  wrong-end few k l h = check-ends col (shape-fine few) (not-all-in (endOk (col .ends)) 0 (runs col) k (omega arith) (rw runs-are l) h)
+  wrong-end few k l h = check-ends (sourceOf col) (ap not (shape-fine few)) (ap not (not-all-in (endOk (col .ends)) 0 (runs col) k (omega arith) (rw runs-are l) h))
 
 -- ---- a pass over the runs
 
@@ -121,11 +121,11 @@ module _ (bytes : List ℕ) (n : ℕ) where
     next-is = end-is bytes n i l ∙ rw (p .is-total, is)
 
     -- "a run length of 0 is 2"
-    pub passed-empty : n ≤ 4096 → count ≡ 0 → Number 2 ≡ checkOf (columnTo bytes n)
+    pub passed-empty : n ≤ 4096 → count ≡ 0 → Number 2 ≡ checkOf (sourceOf (columnTo bytes n))
     passed-empty few z = wrong-end bytes n few i l (end-low (columnTo bytes n .ends) i total last-is (omega (arith, next-is)))
 
     -- and so is an end over 4,294,967,295
-    pub passed-far : n ≤ 4096 → 4294967295 < total + count → Number 2 ≡ checkOf (columnTo bytes n)
+    pub passed-far : n ≤ 4096 → 4294967295 < total + count → Number 2 ≡ checkOf (sourceOf (columnTo bytes n))
     passed-far few m = wrong-end bytes n few i l (end-far (columnTo bytes n .ends) i (omega (arith, next-is)))
 
     -- one run more
@@ -152,8 +152,8 @@ module _ (bytes : List ℕ) (n : ℕ) where
     unfolding reachOk
     all-reach = let e : i ≡ runs (columnTo bytes n) = omega (arith, runs-are bytes n, p .within) in rw e at (p .is-reach)
 
-    pub passed-fine : reach ≡ true → Gives fine ≡ checkOf (columnTo bytes n)
-    passed-fine h = check-all (columnTo bytes n) (shape-fine bytes n few) all-ends (sym all-reach ∙ h)
+    pub passed-fine : reach ≡ true → Gives fine ≡ checkOf (sourceOf (columnTo bytes n))
+    passed-fine h = check-all (sourceOf (columnTo bytes n)) (ap not (shape-fine bytes n few)) (ap not all-ends) (ap not (sym all-reach ∙ h))
 
-    pub passed-reach : reach ≡ false → Number 3 ≡ checkOf (columnTo bytes n)
-    passed-reach h = check-reach (columnTo bytes n) (shape-fine bytes n few) all-ends (sym all-reach ∙ h)
+    pub passed-reach : reach ≡ false → Number 3 ≡ checkOf (sourceOf (columnTo bytes n))
+    passed-reach h = check-reach (sourceOf (columnTo bytes n)) (ap not (shape-fine bytes n few)) (ap not all-ends) (ap not (sym all-reach ∙ h))

@@ -8,8 +8,9 @@ use borrow.Author.Tests.{lt-ltb, le-ltb}
 use lib.Dec.{ltb}
 use Rattle.ranges.proofs.Bools.{or-true}
 use Rattle.meaning.specs.Refusals.{Said, Gives, Number, fine, tried}
+use Rattle.meaning.specs.Column.{sourceOf}
 use Rattle.meaning.specs.Calls.{checkOf}
-use Rattle.meaning.proofs.Judging.{columnFirst, clear-tried, refused-before, refused-first, passed, sound-first}
+use Rattle.meaning.proofs.Judging.{sourceFirst, clear-tried, refused-before, refused-first, passed, passes-first}
 use Rattle.codec.specs.Record.{lengthIn, runsIn, columnTo, columnIn, headTrials, restTrials, Found, readOf}
 use Rattle.codec.proofs.Opening.{openOf, Opens, opens}
 use Rattle.codec.proofs.Columns.{shape-fine}
@@ -45,17 +46,17 @@ module _ (bytes : List ℕ) (starts ends steps : ℕ) where
 
     module _ (s : n ≤ starts) (e : n ≤ ends) (t : n ≤ steps) where
       -- the room is there, and the column's tests are left
-      left : readOf bytes starts ends steps ≡ columnFirst Number (columnIn bytes) (found bytes)
+      left : readOf bytes starts ends steps ≡ sourceFirst Number (sourceOf (columnIn bytes)) (found bytes)
       unfolding tried
       left =
           let no-room : (ltb starts (runsIn bytes) || ltb ends (runsIn bytes) || ltb steps (runsIn bytes)) ≡ false =
           rw (le-ltb starts (runsIn bytes) (omega (arith, known .is-runs)), le-ltb ends (runsIn bytes) (omega (arith, known .is-runs)), le-ltb steps (runsIn bytes) (omega (arith, known .is-runs))) in
           on ∙ rw (no-room, shape-fine bytes (runsIn bytes) (omega (arith, known .is-runs, known .few)))
 
-      pub column-refused : (k : ℕ) → Number k ≡ checkOf (columnTo bytes n) → Number k ≡ readOf bytes starts ends steps
-      column-refused k w = refused-first (columnIn bytes) Number (found bytes) k (rw (known .is-runs) at w) ∙ sym left
+      pub column-refused : (k : ℕ) → Number k ≡ checkOf (sourceOf (columnTo bytes n)) → Number k ≡ readOf bytes starts ends steps
+      column-refused k w = refused-first (sourceOf (columnIn bytes)) Number (found bytes) k (rw (known .is-runs) at w) ∙ sym left
 
-      pub column-fine : Gives fine ≡ checkOf (columnTo bytes n) → Gives (record { count = n; used = 6 + 14 * n }) ≡ readOf bytes starts ends steps
+      pub column-fine : Gives fine ≡ checkOf (sourceOf (columnTo bytes n)) → Gives (record { count = n; used = 6 + 14 * n }) ≡ readOf bytes starts ends steps
       column-fine w =
           let used : 4 + lengthIn bytes ≡ 6 + 14 * n = omega (arith, known .size) in
-          rw (← used, known .is-runs) (sound-first (columnIn bytes) Number (found bytes) (passed (columnIn bytes) (rw (known .is-runs) at w)) ∙ sym left)
+          rw (← used, known .is-runs) (passes-first (sourceOf (columnIn bytes)) Number (found bytes) (passed (sourceOf (columnIn bytes)) (rw (known .is-runs) at w)) ∙ sym left)

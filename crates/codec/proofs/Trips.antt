@@ -13,10 +13,10 @@ use lib.Signed.{mag}
 use Rattle.keys.specs.Widths.{fitsIn, half64, half16}
 use Rattle.keys.proofs.Widths.{in-mag}
 use Rattle.meaning.specs.Refusals.{Gives, Number}
-use Rattle.meaning.specs.Column.{Column, columnOf, startOf, endOf, stepOf, endBefore, runs, endsOk, reachOk, sound}
+use Rattle.meaning.specs.Column.{Column, columnOf, startOf, endOf, stepOf, endBefore, runs, endsOk, reachOk, sound, sourceOf}
 use Rattle.meaning.specs.Parts.{joined}
 use Rattle.meaning.proofs.Calls.{check-fine}
-use Rattle.meaning.proofs.Judging.{Clear, gives-clear}
+use Rattle.meaning.proofs.Judging.{Clear, gives-clear, sound-passes}
 use Rattle.meaning.proofs.Tried.{clear-front, clear-gives}
 use Rattle.meaning.proofs.Parts.{joined-length, joined-from, each-is}
 use Rattle.meaning.proofs.Runs.{before-zero, before-suc}
@@ -149,7 +149,7 @@ module _ (c : Column) (s : sound c ≡ true) (held : Held c) (rest : List ℕ) w
       → (readOf (recordOf c ++ rest) starts ends steps ≡ Gives (record { count = runs c; used = length (recordOf c) })) × (columnIn (recordOf c ++ rest) ≡ c)
   read-written starts ends steps ls le lt =
       let same : columnTo written (runs c) ≡ c = rw runs-back at column-back in
-      (rw (record-length c) (sym (column-fine written starts ends steps (runs c) opens-back ls le lt (rw same (check-fine c s)))), column-back)
+      (rw (record-length c) (sym (column-fine written starts ends steps (runs c) opens-back ls le lt (rw same (check-fine (sourceOf c) (sound-passes c s))))), column-back)
 
 -- ---- writing what was read
 
@@ -205,7 +205,7 @@ module _ (bytes : List ℕ) (starts ends steps : ℕ) (f : Found) (h : readOf by
   write-read all room l =
       let used : f .used ≡ 6 + 14 * runsIn bytes = ap (λ x. x .used) found-is ∙ omega (arith, right .size) in
       let same : 6 + 14 * runs (columnIn bytes) ≡ f .used = omega (arith, used, runs-are bytes (runsIn bytes)) in (
-        sym (write-fine (columnIn bytes) room read-sound (omega arith)) ∙ ap Gives same,
+        sym (write-fine (columnIn bytes) room (sound-passes (columnIn bytes) read-sound) (omega arith)) ∙ ap Gives same,
         rw used (record-same bytes all (runsIn bytes) right),
       )
 

@@ -1,17 +1,16 @@
 -- A record that is written: its length, its parts stored one after the other, and what writing says, case by case. Assumes nothing.
 use Prim.Native.Nat.{ℕ, _+_, _-_, _*_, _≤_, _<_}
 use mathlib.Core.Path.{_≡_, sym, _∙_}
-use mathlib.Core.Bool.{true}
 use mathlib.Core.List.{List, _++_}
 use borrow.Author.Tests.{lt-ltb, le-ltb}
 use lib.ListN.{length, length-append}
 use lib.Seq.{sets}
 use lib.IntN.{ℤ}
 use Rattle.meaning.specs.Refusals.{Gives, Number, tried}
-use Rattle.meaning.specs.Column.{Column, startOf, endOf, stepOf, endBefore, runs, sound}
+use Rattle.meaning.specs.Column.{Column, startOf, endOf, stepOf, endBefore, runs, sourceOf}
 use Rattle.meaning.specs.Calls.{checkOf}
 use Rattle.meaning.specs.Parts.{joined}
-use Rattle.meaning.proofs.Judging.{refused-first, sound-first}
+use Rattle.meaning.proofs.Judging.{Passes, refused-first, passes-first}
 use Rattle.meaning.proofs.Parts.{sets-append, joined-length, joined-more}
 use Rattle.codec.specs.Bytes.{leBytes, ofSigned, encode}
 use Rattle.codec.specs.Record.{runBytes, runOut, recordOf, writeOf}
@@ -52,15 +51,15 @@ record-stored c n l a b d en ea eb ed =
 -- ---- what writing says
 
 module _ (c : Column) (room : ℕ) where
-  pub write-refused : (k : ℕ) → Number k ≡ checkOf c → Number k ≡ writeOf c room
+  pub write-refused : (k : ℕ) → Number k ≡ checkOf (sourceOf c) → Number k ≡ writeOf c room
   unfolding writeOf tried
-  write-refused k h = refused-first c Number _ k h
+  write-refused k h = refused-first (sourceOf c) Number _ k h
 
-  module _ (s : sound c ≡ true) where
+  module _ (s : Passes (sourceOf c)) where
     pub write-short : room < 6 + 14 * runs c → Number 10 ≡ writeOf c room
     unfolding writeOf tried
-    write-short l = rw (lt-ltb room (6 + 14 * runs c) l) (sound-first c Number (Number 10) s)
+    write-short l = rw (lt-ltb room (6 + 14 * runs c) l) (passes-first (sourceOf c) Number (Number 10) s)
 
     pub write-fine : 6 + 14 * runs c ≤ room → Gives (6 + 14 * runs c) ≡ writeOf c room
     unfolding writeOf tried
-    write-fine l = rw (le-ltb room (6 + 14 * runs c) l) (sound-first c Number _ s)
+    write-fine l = rw (le-ltb room (6 + 14 * runs c) l) (passes-first (sourceOf c) Number _ s)

@@ -8,8 +8,8 @@ use lib.IntN.{ℤ}
 use Rattle.keys.specs.Widths.{half64}
 use Rattle.meaning.specs.declared.Refusal.the-variants.{Ends, Reach, Room, Cut, Kind, Size}
 use Rattle.meaning.specs.Refusals.{Said, Gives, Number, Trial, tried, also, judged}
-use Rattle.meaning.specs.Column.{Column, columnOf, startOf, endOf, stepOf, endBefore, runs, endsOk, reachOk}
-use Rattle.meaning.specs.Calls.{onColumn}
+use Rattle.meaning.specs.Column.{Column, columnOf, startOf, endOf, stepOf, endBefore, runs, endsOk, reachOk, sourceOf}
+use Rattle.meaning.specs.Sequence.{onSource}
 use Rattle.meaning.specs.Parts.{joined, each}
 use Rattle.codec.specs.Bytes.{leVal, leBytes, decode, encode, bytesAt}
 
@@ -29,7 +29,7 @@ recordOf c = leBytes 4 (2 + 14 * runs c) ++ leBytes 2 1 ++ joined (runOut c) (ru
 
 -- write: "answers the bytes written"; 10 ROOM: "an output has fewer places than the answer needs"
 unfoldable pub writeOf : Column → ℕ → Said ℕ
-writeOf c room = judged Number (also Room (ltb room (6 + 14 * runs c)) (onColumn c)) (Gives (6 + 14 * runs c))
+writeOf c room = judged Number (also Room (ltb room (6 + 14 * runs c)) (onSource (sourceOf c))) (Gives (6 + 14 * runs c))
 
 -- ---- bytes as a column
 

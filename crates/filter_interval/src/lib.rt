@@ -1,19 +1,20 @@
 // The interval filter: the Rust's filter_interval.rs. It holds its scan by value.
 ghost use mathlib.Core.Path.{_≡_};
 ghost use Rattle.meaning.specs.Contracts.{source};
+ghost use Rattle.loftsplice.specs.declared.scan.Move.the-variants.{Next, Seek};
 ghost use Rattle.loftsplice.specs.Scan.{saysAnswer};
-ghost use Rattle.filter_interval.specs.Filter.{saysFitted, siftingOf, Next, Seek, fitOf, callOf, filterCurrentOf, filterResetOf};
+ghost use Rattle.filter_interval.specs.Filter.{saysFitted, siftingOf, handing, fitOf, callOf, filterCurrentOf, filterResetOf};
 ghost use Rattle.filter_interval.specs.Inner.{noneOrRefused};
 
 pub mod sifting;
 
-use crate::sifting::Step;
 use crate::sifting::sift;
 use bounds::Bounds;
 use bounds::Inputs;
 use bounds::Limit;
 use bounds::Variables;
 use bounds::fold;
+use loftsplice::scan::Move;
 use loftsplice::scan::Scan;
 use meaning::Answer;
 use meaning::Refusal;
@@ -89,9 +90,9 @@ impl Filter {
         upper: Variables,
         inputs: Inputs,
     ) -> Sifted
-        ensures { λ r. ⌜ siftingOf r ≡ callOf (source starts ends steps) (record { move = Next; lower = lower; upper = upper; inputs = inputs }) self ⌝ }
+        ensures { λ r. ⌜ siftingOf r ≡ callOf (source starts ends steps) (handing Next lower upper inputs) self ⌝ }
     {
-        let step = Step::Next;
+        let step = Move::Next;
         sift(self, starts, ends, steps, step, lower, upper, inputs)
     }
 
@@ -106,9 +107,9 @@ impl Filter {
         upper: Variables,
         inputs: Inputs,
     ) -> Sifted
-        ensures { λ r. ⌜ siftingOf r ≡ callOf (source starts ends steps) (record { move = Seek target; lower = lower; upper = upper; inputs = inputs }) self ⌝ }
+        ensures { λ r. ⌜ siftingOf r ≡ callOf (source starts ends steps) (handing (Seek target) lower upper inputs) self ⌝ }
     {
-        let step = Step::Seek(target);
+        let step = Move::Seek(target);
         sift(self, starts, ends, steps, step, lower, upper, inputs)
     }
 

@@ -1,13 +1,13 @@
 // One call on a filter: what next and seek share. The bounds are read first, the scan is led once, and its answer settles the filter.
 ghost use mathlib.Core.Path.{_≡_};
-ghost use mathlib.Core.Bool.{false, _||_};
+ghost use mathlib.Core.Bool.{_||_};
 ghost use lib.Dec.{ltb};
 ghost use Rattle.meaning.specs.Contracts.{source};
 ghost use Rattle.loftsplice.specs.Scan.{outcomeOf};
 ghost use Rattle.loftsplice.specs.Lead.{leadOf};
 ghost use Rattle.filter_interval.specs.declared.FilterState.the-variants.{Before};
-ghost use Rattle.filter_interval.specs.Filter.{siftingOf, raised, unread, callOf};
-ghost use Rattle.filter_interval.specs.Inner.{moveOf, callFor, stepLead, leadTo, leadFor, upFor, settled};
+ghost use Rattle.filter_interval.specs.Filter.{siftingOf, handing, raised, leadTo, unread, callOf};
+ghost use Rattle.filter_interval.specs.Inner.{Leads, Limits, settled};
 use crate::Filter;
 use crate::FilterState;
 use crate::Sifted;
@@ -23,14 +23,9 @@ use bounds::meets_upper;
 use bounds::read;
 use loftsplice::leading::Lead;
 use loftsplice::leading::led;
+use loftsplice::scan::Move;
 use loftsplice::scan::Moved;
 use meaning::Answer;
-
-// next, or seek with a target
-pub(crate) enum Step {
-    Next,
-    Seek(i64),
-}
 
 // Where a call leads the scan, and the limit above that is then to be met; where a bound was not read these say nothing.
 struct Asked {
@@ -53,12 +48,12 @@ fn too_many(lows: usize, ups: usize, ins: usize) -> bool
 }
 
 // seek: "the lower bound, if any, is first raised to the inclusive target where that is greater in the order"
-fn raise(step: Step, low: Limit) -> Limit
-    ensures { λ r. ⌜ r ≡ raised (moveOf step) low ⌝ }
+fn raise(step: Move, low: Limit) -> Limit
+    ensures { λ r. ⌜ r ≡ raised step low ⌝ }
 {
     match step {
-        Step::Next => low,
-        Step::Seek(target) => match low {
+        Move::Next => low,
+        Move::Seek(target) => match low {
             Limit::Free => Limit::Free,
             Limit::To(bound) => {
                 let inclusive = Bound {
@@ -76,33 +71,23 @@ fn lead_to(low: Limit) -> Lead
     ensures { λ r. ⌜ r ≡ leadTo low ⌝ }
 {
     match low {
-        Limit::Free => Lead::Next,
+        Limit::Free => Lead::Go(Move::Next),
         Limit::To(bound) => {
             let edge = bound.value;
             let boundary = bound.boundary;
             if is_exclusive(boundary) {
                 return Lead::Past(edge);
             }
-            Lead::Seek(edge)
+            Lead::Go(Move::Seek(edge))
         }
     }
 }
 
-// "the scan does next or seek"
-fn step_lead(step: Step) -> Lead
-    ensures { λ r. ⌜ r ≡ stepLead (moveOf step) ⌝ }
-{
-    match step {
-        Step::Next => Lead::Next,
-        Step::Seek(target) => Lead::Seek(target),
-    }
-}
-
 // Before: the folded constants with the variable bounds as read.
-fn begin(filter: Filter, step: Step, lower: Variables, upper: Variables, inputs: Inputs) -> Asked
-    ensures told { λ r. ⌜ r .unread ≡ unread (callFor step lower upper inputs) Before ⌝ }
-    ensures lead { λ r. ⌜ (unread (callFor step lower upper inputs) Before ≡ false → r .lead ≡ leadFor (callFor step lower upper inputs) filter Before) ⌝ }
-    ensures up { λ r. ⌜ (unread (callFor step lower upper inputs) Before ≡ false → r .upper ≡ upFor (callFor step lower upper inputs) filter Before) ⌝ }
+fn begin(filter: Filter, step: Move, lower: Variables, upper: Variables, inputs: Inputs) -> Asked
+    ensures told { λ r. ⌜ r .unread ≡ unread (handing step lower upper inputs) Before ⌝ }
+    ensures lead { λ r. ⌜ Leads (handing step lower upper inputs) filter Before (r .lead) ⌝ }
+    ensures up { λ r. ⌜ Limits (handing step lower upper inputs) filter Before (r .upper) ⌝ }
 {
     let low = filter.lower;
     let up = filter.upper;
@@ -131,17 +116,17 @@ fn begin(filter: Filter, step: Step, lower: Variables, upper: Variables, inputs:
 }
 
 // Before: by the bounds as read; Within: by the kept bound; "After stays and moves nothing".
-fn ask(filter: Filter, step: Step, lower: Variables, upper: Variables, inputs: Inputs) -> Asked
-    ensures told { λ r. ⌜ r .unread ≡ unread (callFor step lower upper inputs) (filter .state) ⌝ }
-    ensures lead { λ r. ⌜ (unread (callFor step lower upper inputs) (filter .state) ≡ false → r .lead ≡ leadFor (callFor step lower upper inputs) filter (filter .state)) ⌝ }
-    ensures up { λ r. ⌜ (unread (callFor step lower upper inputs) (filter .state) ≡ false → r .upper ≡ upFor (callFor step lower upper inputs) filter (filter .state)) ⌝ }
+fn ask(filter: Filter, step: Move, lower: Variables, upper: Variables, inputs: Inputs) -> Asked
+    ensures told { λ r. ⌜ r .unread ≡ unread (handing step lower upper inputs) (filter .state) ⌝ }
+    ensures lead { λ r. ⌜ Leads (handing step lower upper inputs) filter (filter .state) (r .lead) ⌝ }
+    ensures up { λ r. ⌜ Limits (handing step lower upper inputs) filter (filter .state) (r .upper) ⌝ }
 {
     let state = filter.state;
     match state {
         FilterState::Before => begin(filter, step, lower, upper, inputs),
         FilterState::Within(kept) => Asked {
             unread: false,
-            lead: step_lead(step),
+            lead: Lead::Go(step),
             upper: kept,
         },
         FilterState::After => Asked {
@@ -197,14 +182,14 @@ fn lead_on(
     ends: &[u64],
     steps: &[i16],
     many: bool,
-    asked: Asked,
+    to: Asked,
 ) -> Sifted
-    ensures { λ r. ⌜ siftingOf r ≡ settled filter (asked .upper) (leadOf (source starts ends steps) many (asked .unread) (asked .lead) (filter .scan)) ⌝ }
+    ensures { λ r. ⌜ siftingOf r ≡ settled filter (to .upper) (leadOf (source starts ends steps) many (to .unread) (to .lead) (filter .scan)) ⌝ }
 {
     let scan = filter.scan;
-    let unread = asked.unread;
-    let lead = asked.lead;
-    let up = asked.upper;
+    let unread = to.unread;
+    let lead = to.lead;
+    let up = to.upper;
     let moved = led(scan, starts, ends, steps, many, unread, lead);
     settle(filter, up, moved)
 }
@@ -215,12 +200,12 @@ pub(crate) fn sift(
     starts: &[i64],
     ends: &[u64],
     steps: &[i16],
-    step: Step,
+    step: Move,
     lower: Variables,
     upper: Variables,
     inputs: Inputs,
 ) -> Sifted
-    ensures { λ r. ⌜ siftingOf r ≡ callOf (source starts ends steps) (callFor step lower upper inputs) filter ⌝ }
+    ensures { λ r. ⌜ siftingOf r ≡ callOf (source starts ends steps) (handing step lower upper inputs) filter ⌝ }
 {
     let lows = lower.count;
     let ups = upper.count;

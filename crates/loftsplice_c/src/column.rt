@@ -1,6 +1,6 @@
 // The calls on a column. What is not given is 0.
 ghost use mathlib.Core.Path.{_≡_};
-ghost use Rattle.meaning.specs.Contracts.{column};
+ghost use Rattle.meaning.specs.Contracts.{column, source};
 ghost use Rattle.meaning.specs.Calls.{checkOf, lenOf, isEmptyOf, placeOf, getOf, diffStepOf};
 ghost use Rattle.loftsplice_c.specs.Flat.{refusalIn};
 ghost use Rattle.loftsplice_c.specs.Column.{flatLength, flatEmptiness, flatPlace, flatDifference};
@@ -52,7 +52,7 @@ pub struct FlatDifference {
 // 0, or refused 1, 2, 3.
 #[no_mangle]
 pub extern "C" fn loftsplice_check(starts: &[i64], ends: &[u64], steps: &[i16]) -> u32
-    ensures { λ r. ⌜ r ≡ refusalIn (checkOf (column starts ends steps)) ⌝ }
+    ensures { λ r. ⌜ r ≡ refusalIn (checkOf (source starts ends steps)) ⌝ }
 {
     let checked = check(starts, ends, steps);
     match checked {
@@ -64,7 +64,7 @@ pub extern "C" fn loftsplice_check(starts: &[i64], ends: &[u64], steps: &[i16]) 
 // The length, or refused 1, 2, 3.
 #[no_mangle]
 pub extern "C" fn loftsplice_len(starts: &[i64], ends: &[u64], steps: &[i16]) -> FlatLength
-    ensures { λ r. ⌜ r ≡ flatLength (lenOf (column starts ends steps)) ⌝ }
+    ensures { λ r. ⌜ r ≡ flatLength (lenOf (source starts ends steps)) ⌝ }
 {
     let answer = len(starts, ends, steps);
     match answer {
@@ -79,7 +79,7 @@ pub extern "C" fn loftsplice_len(starts: &[i64], ends: &[u64], steps: &[i16]) ->
 // Whether the length is 0, or refused 1, 2, 3.
 #[no_mangle]
 pub extern "C" fn loftsplice_is_empty(starts: &[i64], ends: &[u64], steps: &[i16]) -> FlatEmptiness
-    ensures { λ r. ⌜ r ≡ flatEmptiness (isEmptyOf (column starts ends steps)) ⌝ }
+    ensures { λ r. ⌜ r ≡ flatEmptiness (isEmptyOf (source starts ends steps)) ⌝ }
 {
     let answer = is_empty(starts, ends, steps);
     match answer {
@@ -131,7 +131,7 @@ pub extern "C" fn loftsplice_get(
     steps: &[i16],
     index: u64,
 ) -> FlatAnswer
-    ensures { λ r. ⌜ r ≡ flatAnswer (answered (getOf (column starts ends steps) index)) ⌝ }
+    ensures { λ r. ⌜ r ≡ flatAnswer (answered (getOf (source starts ends steps) index)) ⌝ }
 {
     let answer = get(starts, ends, steps, index);
     match answer {

@@ -1,8 +1,7 @@
 // The batch listing.
 ghost use mathlib.Core.Path.{_≡_};
 ghost use lib.ListN.{length};
-ghost use Rattle.meaning.specs.Column.{sequenceOf};
-ghost use Rattle.meaning.specs.Contracts.{column, source};
+ghost use Rattle.meaning.specs.Contracts.{sequence, source};
 ghost use Rattle.meaning.specs.Outputs.{after};
 ghost use Rattle.loftsplice.specs.Listing.{saysListed};
 ghost use Rattle.loftsplice_c.specs.Listing.{flatListed, askList, listValues, listCounts};
@@ -47,8 +46,8 @@ pub extern "C" fn loftsplice_list(
     counts: &mut [u64],
 ) -> FlatListed
     ensures { λ r. ⌜ r ≡ flatListed (askList (now (from .entry)) (now (to .entry)) (now (lows .entry)) (now (lowkinds .entry)) (now (ups .entry)) (now (upkinds .entry)) (source starts ends steps) (length (now (out .entry))) (length (now (counts .entry)))) ⌝ }
-    ensures { λ r. ⌜ now (out .exit) ≡ after (askList (now (from .entry)) (now (to .entry)) (now (lows .entry)) (now (lowkinds .entry)) (now (ups .entry)) (now (upkinds .entry)) (source starts ends steps) (length (now (out .entry))) (length (now (counts .entry)))) (listValues (now (from .entry)) (now (to .entry)) (now (lows .entry)) (now (lowkinds .entry)) (now (ups .entry)) (now (upkinds .entry)) (sequenceOf (column starts ends steps))) (now (out .entry)) ⌝ }
-    ensures { λ r. ⌜ now (counts .exit) ≡ after (askList (now (from .entry)) (now (to .entry)) (now (lows .entry)) (now (lowkinds .entry)) (now (ups .entry)) (now (upkinds .entry)) (source starts ends steps) (length (now (out .entry))) (length (now (counts .entry)))) (listCounts (now (from .entry)) (now (to .entry)) (now (lows .entry)) (now (lowkinds .entry)) (now (ups .entry)) (now (upkinds .entry)) (sequenceOf (column starts ends steps))) (now (counts .entry)) ⌝ }
+    ensures { λ r. ⌜ now (out .exit) ≡ after (askList (now (from .entry)) (now (to .entry)) (now (lows .entry)) (now (lowkinds .entry)) (now (ups .entry)) (now (upkinds .entry)) (source starts ends steps) (length (now (out .entry))) (length (now (counts .entry)))) (listValues (now (from .entry)) (now (to .entry)) (now (lows .entry)) (now (lowkinds .entry)) (now (ups .entry)) (now (upkinds .entry)) (sequence starts ends steps)) (now (out .entry)) ⌝ }
+    ensures { λ r. ⌜ now (counts .exit) ≡ after (askList (now (from .entry)) (now (to .entry)) (now (lows .entry)) (now (lowkinds .entry)) (now (ups .entry)) (now (upkinds .entry)) (source starts ends steps) (length (now (out .entry))) (length (now (counts .entry)))) (listCounts (now (from .entry)) (now (to .entry)) (now (lows .entry)) (now (lowkinds .entry)) (now (ups .entry)) (now (upkinds .entry)) (sequence starts ends steps)) (now (counts .entry)) ⌝ }
 {
     if are_bounds(lows.len(), lowkinds, ups.len(), upkinds) {
         let lower = bounds_of(lows, lowkinds);

@@ -72,7 +72,7 @@ fn run_in(bytes: &[u8], r: usize) -> Run
 // 2 and 3 of the first n runs, before anything is written: one pass, that remembers 3 until 2 was tried on all.
 pub(crate) fn check_runs(bytes: &[u8], n: usize) -> Checked
     requires { ⌜ (n ≤ 4096) × (6 + 14 * n ≤ length (now bytes)) ⌝ }
-    ensures { λ r. ⌜ saysChecked r ≡ checkOf (columnTo (now (bytes .entry)) n) ⌝ }
+    ensures { λ r. ⌜ saysChecked r ≡ checkOf (sourceOf (columnTo (now (bytes .entry)) n)) ⌝ }
 {
     let mut total = 0u64;
     let mut reach = true;

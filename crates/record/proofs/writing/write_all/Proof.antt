@@ -1,13 +1,9 @@
 -- `record::writing::write_all` meets its contract: the head, then the runs. Assumes nothing.
 use mathlib.Core.Path.{refl}
-use Rattle.meaning.specs.Column.{Column, columnOf}
 use Rattle.codec.proofs.Writing.{record-stored}
 use borrow.Author.Needs.{needs}
 use Rattle.record.proofs.writing.write_all.Statement.{statement}
 use Rattle.record.proofs.writing.write_all.Tie as tie
-
-abbrev col : tie.Start → Column
-col s = columnOf (s .args .starts .now) (s .args .ends .now) (s .args .steps .now)
 
 mul-write-le : tie.Need-mul-write-le
 mul-write-le c = search needs
@@ -33,7 +29,7 @@ returns c =
     let second = third .before .before .before .before in
     let first = second .before .before .before .before in
     let s = first .before .before .before .before in
-    record-stored (col s) _ (s .args .out .now) _ _ _ refl (first .write-le .ensures) (second .write-le2 .ensures) (third .write-runs .ensures)
+    record-stored _ _ (s .args .out .now) _ _ _ refl (first .write-le .ensures) (second .write-le2 .ensures) (third .write-runs .ensures)
 
 pub write-all-spec : {M : Type 1} → statement M
 write-all-spec =

@@ -6,8 +6,9 @@ use lib.ListN.{length, getD}
 use lib.IntN.{pos}
 use lib.Seq.{sets, length-sets}
 use mir.Syntax.{w16, w64}
+use Rattle.meaning.specs.Contracts.{columnNow}
 use Rattle.keys.proofs.Bits.{back}
-use Rattle.meaning.specs.Column.{Column, columnOf, endBefore}
+use Rattle.meaning.specs.Column.{columnOf, endBefore}
 use Rattle.meaning.specs.Parts.{joined}
 use Rattle.meaning.proofs.Runs.{before-zero, before-next}
 use Rattle.meaning.proofs.Soundness.{Sound, sound-parts}
@@ -24,11 +25,8 @@ abbrev μ-loop : tie.MeasureT-loop
 μ-loop starts ends steps out₀ last₀ i₀ out last i = length ends - i
 
 -- the column is sound, and the output as long as it was
-abbrev col : tie.Start Inv-loop μ-loop → Column
-col s = columnOf (s .args .starts .now) (s .args .ends .now) (s .args .steps .now)
-
-known : (s : tie.Start Inv-loop μ-loop) → Sound (col s)
-known s = sound-parts (col s) (s .pre .0)
+known : (s : tie.Start Inv-loop μ-loop) → Sound (columnNow (s .args .starts) (s .args .ends) (s .args .steps))
+known s = sound-parts _ (s .pre .0)
 
 long : (c : tie.At-loop Inv-loop μ-loop) → length (c .loop .out) ≡ length (c .before .before .before .args .out .now)
 long c = ap length (c .loop .inv .2) ∙ simp length-sets
@@ -89,7 +87,7 @@ loop-again c =
     let s = l .before .before .before in (
       omega arith,
       before-next (s .args .ends .now) (l .loop .i),
-      runs-stored (col s) (l .loop .i) (l .loop .last) _ _ (l .loop .out) (s .args .out .now) _ (l .loop .inv .1) (back w64 (getD (s .args .starts .now) (l .loop .i) (pos 0)) (r .before .before .write-run-arg2 .given))
+      runs-stored _ (l .loop .i) (l .loop .last) _ _ (l .loop .out) (s .args .out .now) _ (l .loop .inv .1) (back w64 (getD (s .args .starts .now) (l .loop .i) (pos 0)) (r .before .before .write-run-arg2 .given))
           (back w16 (getD (s .args .steps .now) (l .loop .i) (pos 0)) (r .before .write-run-arg3 .given)) (l .loop .inv .2) (r .write-run .ensures),
     )
 

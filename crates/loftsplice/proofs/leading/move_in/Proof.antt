@@ -1,0 +1,35 @@
+-- `leading::move_in` meets its contract. Assumes nothing.
+use mir.Syntax.{w64}
+use Rattle.keys.proofs.Bits.{back}
+use Rattle.loftsplice.proofs.LeadCases.{moves-next, moves-seek}
+use borrow.Author.Needs.{needs}
+use Rattle.loftsplice.proofs.leading.move_in.Statement.{statement}
+use Rattle.loftsplice.proofs.leading.move_in.Tie as tie
+
+enum-told : tie.Need-enum-told
+enum-told c = search needs
+
+next-in-requires : tie.Need-next-in-requires
+next-in-requires c κs = search needs
+
+enum-known-step : tie.Need-enum-known-step
+enum-known-step c = search needs
+
+seek-in-requires : tie.Need-seek-in-requires
+seek-in-requires c κs = search needs
+
+returns : tie.Need-returns
+returns c =
+    let s = c .before .before .before .before in
+    moves-next _ (s .args .scan) (s .args .step) _ (c .before .enum-told .given .1) (c .next-in .ensures)
+
+returns-2 : tie.Need-returns-2
+returns-2 c =
+    let s = c .before .before .before .before .before in
+    let x = c .before .before .step .given .0 .0 in
+    moves-seek _ (s .args .scan) (s .args .step) _ x _ (back w64 x (c .before .known-told .given .0 .1)) (c .before .before .step .given .1) (c .seek-in .ensures)
+
+pub move-in-spec : {M : Type 1} → statement M
+move-in-spec =
+    tie.close
+    (tie.spec enum-told next-in-requires enum-known-step seek-in-requires returns returns-2)
