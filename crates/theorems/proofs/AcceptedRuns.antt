@@ -7,10 +7,13 @@ use mathlib.Core.Logic.{inl, _↔_, Iff·rfl, Iff·trans}
 use borrow.Author.Tests.{eqb-true}
 use lib.Dec.{ltb, eqb}
 use lib.ListN.{take}
+use Rattle.loftsplice.specs.declared.leading.Lead.the-variants.{Stay, Go, Past}
+use Rattle.loftsplice.specs.declared.leading.Lead.{Lead}
 use Rattle.ranges.specs.Ranges.{every}
 use Rattle.ranges.proofs.Bools.{either, and-left, and-false, and-true, and-swap, not-yes, not-not, In, every-at, at-every}
 use Rattle.ranges.proofs.Reading.{reading, same-test}
 use Rattle.meaning.specs.Sequence.{Sequence, Source, rises}
+use Rattle.loftsplice.specs.declared.scan.Move.the-variants.{Next, Seek}
 use Rattle.loftsplice.specs.declared.scan.Scan.{Scan}
 use Rattle.bounds.specs.declared.Bound.{Bound}
 use Rattle.bounds.specs.declared.Limit.{Limit}
@@ -18,12 +21,12 @@ use Rattle.bounds.specs.declared.Limit.the-variants.{Free, To}
 use Rattle.filter_interval.specs.declared.FilterState.{FilterState}
 use Rattle.filter_interval.specs.declared.FilterState.the-variants.{Before, Within, After}
 use Rattle.filter_interval.specs.declared.Filter.{Filter}
-use Rattle.loftsplice.specs.Scan.{Outcome, fresh, seekFrom, badScan}
+use Rattle.loftsplice.specs.Scan.{Outcome, fresh, seekFrom, badScan, moveScan}
 use Rattle.bounds.specs.Bounds.{isExclusive, variables, readable, asRead}
-use Rattle.loftsplice.specs.Lead.{found}
-use Rattle.filter_interval.specs.Filter.{Next, Seek, Call, past, arrive, raised, lowerOf, upperOf, moveScan, accepts, settle, stepFrom, tooMany, unread, callOf, newFilter}
-use Rattle.theorems.specs.Exact.{accepted, soundSource, allReadable}
-use Rattle.theorems.specs.Demand3.{answersOf, answers, allLower, allUpper}
+use Rattle.loftsplice.specs.Lead.{found, onPast, leadFrom}
+use Rattle.filter_interval.specs.Filter.{Call, raised, lowerOf, upperOf, accepts, settle, stepFrom, tooMany, unread, callOf, newFilter, leadTo, allReadable, answersOf}
+use Rattle.theorems.specs.Exact.{accepted, soundSource}
+use Rattle.theorems.specs.Demand3.{answers, allLower, allUpper}
 use Rattle.theorems.specs.Runs.{risingWindow, acceptable}
 use Rattle.theorems.specs.Audit.{constant}
 use Rattle.theorems.proofs.FilterCalls.{call-accepts, call-does, call-keeps}
@@ -41,13 +44,14 @@ module _ (q : Sequence) (s e : ℕ) where
   unfolding settle
   settle-begun f up m r = either (accepts up (m .said)) (λ t. rw t (record { scan = r; reads-none = λ k. refl })) (λ t. rw t (record { scan = r; reads-none = λ k. refl }))
 
-  arrive-restricted : (low : Limit) (c : Scan) → Restricted s e c → Restricted s e (arrive q low c .scan)
-  unfolding arrive past
-  arrive-restricted Free c r = move-restricted q c Next r
-  arrive-restricted (To b) c r =
-      let m = seekFrom q (b .value) c (c .state) in
-      let h : Restricted s e (m .scan) = move-restricted q c (Seek (b .value)) r in
-      either (isExclusive (b .boundary) && found (b .value) (m .said)) (λ t. rw t (move-restricted q (m .scan) Next h)) (λ t. rw t h)
+  lead-restricted : (l : Lead) (c : Scan) → Restricted s e c → Restricted s e (leadFrom q l c .scan)
+  unfolding leadFrom onPast
+  lead-restricted Stay c r = r
+  lead-restricted (Go m) c r = move-restricted q c m r
+  lead-restricted (Past x) c r =
+      let m = moveScan q (Seek x) c in
+      let h : Restricted s e (m .scan) = move-restricted q c (Seek x) r in
+      either (found x (m .said)) (λ t. rw t (move-restricted q (m .scan) Next h)) (λ t. rw t h)
 
   -- what any step leaves
   step-begun : (k : Call) (f : Filter) → Restricted s e (f .scan) → Begun s e (stepFrom q k f (f .state) .filter)
@@ -55,8 +59,8 @@ module _ (q : Sequence) (s e : ℕ) where
   step-begun k f r = by (f .state) refl
     where
       by : (w : FilterState) → f .state ≡ w → Begun s e (stepFrom q k f w .filter)
-      by Before h = settle-begun f (upperOf f k) (arrive q (raised (k .move) (lowerOf f k)) (f .scan)) (arrive-restricted (raised (k .move) (lowerOf f k)) (f .scan) r)
-      by (Within up) h = settle-begun f up (moveScan q (k .move) (f .scan)) (move-restricted q (f .scan) (k .move) r)
+      by Before h = settle-begun f (upperOf f k) _ (lead-restricted (leadTo (raised (k .move) (lowerOf f k))) (f .scan) r)
+      by (Within up) h = settle-begun f up _ (lead-restricted (Go (k .move)) (f .scan) r)
       by After h = record { scan = r; reads-none = λ k. rw h }
 
 module _ (p : Source) (s e : ℕ) where

@@ -16,8 +16,10 @@ use Rattle.meaning.specs.Refusals.{Gives}
 use Rattle.meaning.specs.Sequence.{Source, rises}
 use Rattle.meaning.specs.Column.{Column, sizeOf, sequenceOf, sound, sourceOf}
 use Rattle.bounds.specs.declared.Bound.{Bound}
-use Rattle.loftsplice.specs.Scan.{fresh, newOf, seekOf}
-use Rattle.filter_interval.specs.Filter.{Move, Next, Seek, Call, newFilter}
+use Rattle.loftsplice.specs.declared.scan.Move.the-variants.{Next, Seek}
+use Rattle.loftsplice.specs.declared.scan.Move.{Move}
+use Rattle.loftsplice.specs.Scan.{fresh, newOf, seekOf, saysAll}
+use Rattle.filter_interval.specs.Filter.{Call, newFilter}
 use Rattle.theorems.specs.Exact.{accepted}
 use Rattle.theorems.specs.Demand3.{answers, moves, allLower, allUpper, meetsAll, tied, counts, expectedFrom, expected}
 use Rattle.theorems.specs.Runs.{scanAnswers, anything, risingWindow}
@@ -39,7 +41,7 @@ module _ (p : Source) (start end : ℕ) (rising : risingWindow p start end ≡ t
       scan-answers-are-expected p start end (map Seek ks) (rising-accepted p start end rising (map Seek ks)) ∙ seeks-alone (p .sequence) start end anything ks h
 
   seek-is : (k : ℤ) → seekOf p k (fresh start end) .said ≡ alone (p .sequence) start end anything k
-  unfolding scanAnswers ascendingFrom
+  unfolding saysAll ascendingFrom
   seek-is k = let h : (seekOf p k (fresh start end) .said ∷ []) ≡ (alone (p .sequence) start end anything k ∷ []) = seeks-are (k ∷ []) refl in cc
 
   -- "a fresh scan's seek of k answers k exactly if some element of the column is k"

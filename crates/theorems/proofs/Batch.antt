@@ -20,14 +20,14 @@ use Rattle.meaning.specs.Sequence.{rises}
 use Rattle.meaning.proofs.Paste.{front-length}
 use Rattle.bounds.specs.Bounds.{bounds}
 use Rattle.filter_interval.specs.Filter.{Call}
-use Rattle.loftsplice.specs.Listing.{Span, those, valuesIn}
+use Rattle.loftsplice.specs.Listing.{Span, those, valuesIn, Batch, low, up, spans, listOf, values, numbers, outAfter, countsAfter}
 use Rattle.loftsplice.proofs.Windows.{windows-length, window-there, every-window, counts-length}
 use Rattle.loftsplice.proofs.ListingCases.{windows-paired}
 use Rattle.theorems.specs.Exact.{accepted}
 use Rattle.theorems.specs.Demand3.{answers, moves, meetsAll, tied}
 use Rattle.theorems.specs.Runs.{isNext, listing, risingWindow}
 use Rattle.theorems.specs.Audit.{constant}
-use Rattle.theorems.specs.Batch.{Batch, low, up, spans, span, elements, meetsFolded, answer, values, numbers, outAfter, countsAfter, total, howMany, count, begin, part}
+use Rattle.theorems.specs.Batch.{span, elements, meetsFolded, total, howMany, count, begin, part}
 use Rattle.theorems.proofs.Folded.{through, untied}
 use Rattle.theorems.proofs.AcceptedRuns.{constant-lower, constant-upper, constant-accepted}
 use Rattle.theorems.proofs.Demand3.{next-alone-lists-at-any-bounds}
@@ -36,9 +36,9 @@ use Rattle.theorems.proofs.Parts.{those-number, total-more, values-tota
 
 -- ---- an accepted listing
 
-module _ (b : Batch) (h : accepted (answer b) ≡ true) where
+module _ (b : Batch) (h : accepted (listOf b) ≡ true) where
   paired : length (b .starts) ≡ length (b .ends)
-  paired = windows-paired (b .starts) (b .ends) (b .lower) (b .upper) (list-accepts b .0 h .1)
+  paired = windows-paired (b .starts) (b .ends) (b .lower .count) (b .upper .count) (list-accepts b .0 h .1)
 
   counted : length (numbers b) ≡ length (b .starts)
   counted = counts-length (b .source .sequence) (low b) (up b) (spans b) ∙ windows-length (b .starts) (b .ends) paired
@@ -53,7 +53,7 @@ module _ (b : Batch) (h : accepted (answer b) ≡ true) where
       ∙ sym (values-total (b .source .sequence) (low b) (up b) (spans b))
 
   -- "The answer is the number written per window, in a lent array of counts, and their sum."
-  pub answer-is-sum : answer b ≡ Gives (total (take (length (b .starts)) (countsAfter b)))
+  pub answer-is-sum : listOf b ≡ Gives (total (take (length (b .starts)) (countsAfter b)))
   answer-is-sum = list-gives b h ∙ ap Gives (sym sum-is)
 
   -- "Places beyond are unchanged": of the output those from the sum on, of the counts those from the number of windows on; and both are as long as they were
@@ -139,7 +139,7 @@ module _ (b : Batch) (h : accepted (answer b) ≡ true) where
 
 -- "Windows may repeat or overlap; each is listed in full": a window's part depends on the window, the column and the bounds, and on nothing else:
 -- not on its place, nor on the other windows, in one listing or in two.
-pub same-window-same-part : (a b : Batch) → accepted (answer a) ≡ true → accepted (answer b) ≡ true
+pub same-window-same-part : (a b : Batch) → accepted (listOf a) ≡ true → accepted (listOf b) ≡ true
     → a .source ≡ b .source → a .lower ≡ b .lower → a .upper ≡ b .upper
     → (j k : ℕ) → j < length (a .starts) → k < length (b .starts) → span a j ≡ span b k → part a j ≡ part b k
 same-window-same-part a b f g s lo hi j k l m w = part-is a f j l ∙ same ∙ sym (part-is b g k m)

@@ -12,7 +12,8 @@ use Rattle.meaning.specs.declared.Refusal.{Refusal}
 use Rattle.meaning.specs.declared.Refusal.the-variants.{Index}
 use Rattle.meaning.specs.Refusals.{fine, Said, Gives, Number, also, judged}
 use Rattle.meaning.specs.Column.{Column, shapeOk, endsOk, reachOk, sound, sizeOf, sourceOf}
-use Rattle.meaning.specs.Calls.{onColumn, checkOf, lenOf, isEmptyOf, placeOf, getOf}
+use Rattle.meaning.specs.Sequence.{onSource}
+use Rattle.meaning.specs.Calls.{checkOf, lenOf, isEmptyOf, placeOf, getOf}
 use Rattle.theorems.specs.Exact.{earlier, accepted, soundSource}
 use Rattle.theorems.proofs.Exactly.{plainly, exact, accepted-exactly, OfSource, source-tests}
 
@@ -37,43 +38,43 @@ module _ (c : Column) where
 
   -- a call that applies these alone
   module _ {B : Type 0} (b : B) where
-    plain-refuses : OfColumn (judged Number (onColumn c) (Gives b))
-    plain-refuses = column-tests (source-tests (plainly b) (onColumn c) (sourceOf c) refl refl refl)
+    plain-refuses : OfColumn (judged Number (onSource (sourceOf c)) (Gives b))
+    plain-refuses = column-tests (source-tests (plainly b) (onSource (sourceOf c)) (sourceOf c) refl refl refl)
 
-    plain-accepts : (accepted (judged Number (onColumn c) (Gives b)) ≡ true) ↔ (sound c ≡ true)
+    plain-accepts : (accepted (judged Number (onSource (sourceOf c)) (Gives b)) ≡ true) ↔ (sound c ≡ true)
     unfolding sound
-    plain-accepts = Iff·trans (accepted-exactly (plainly b) (onColumn c)) (simp reading Iff·rfl)
+    plain-accepts = Iff·trans (accepted-exactly (plainly b) (onSource (sourceOf c))) (simp reading Iff·rfl)
 
-  pub check-refuses : OfColumn (checkOf c)
+  pub check-refuses : OfColumn (checkOf (sourceOf c))
   unfolding checkOf
   check-refuses = plain-refuses fine
 
-  pub len-refuses : OfColumn (lenOf c)
+  pub len-refuses : OfColumn (lenOf (sourceOf c))
   unfolding lenOf
   len-refuses = plain-refuses (sizeOf c)
 
-  pub is-empty-refuses : OfColumn (isEmptyOf c)
+  pub is-empty-refuses : OfColumn (isEmptyOf (sourceOf c))
   unfolding isEmptyOf
   is-empty-refuses = plain-refuses (eqb (sizeOf c) 0)
 
-  pub check-accepts : (accepted (checkOf c) ≡ true) ↔ (sound c ≡ true)
+  pub check-accepts : (accepted (checkOf (sourceOf c)) ≡ true) ↔ (sound c ≡ true)
   unfolding checkOf
   check-accepts = plain-accepts fine
 
-  pub len-accepts : (accepted (lenOf c) ≡ true) ↔ (sound c ≡ true)
+  pub len-accepts : (accepted (lenOf (sourceOf c)) ≡ true) ↔ (sound c ≡ true)
   unfolding lenOf
   len-accepts = plain-accepts (sizeOf c)
 
-  pub is-empty-accepts : (accepted (isEmptyOf c) ≡ true) ↔ (sound c ≡ true)
+  pub is-empty-accepts : (accepted (isEmptyOf (sourceOf c)) ≡ true) ↔ (sound c ≡ true)
   unfolding isEmptyOf
   is-empty-accepts = plain-accepts (eqb (sizeOf c) 0)
 
   module _ (i : ℕ) where
     abbrev placeTests : Refusal → Bool
-    placeTests = also Index (ltb (sizeOf c) i) (onColumn c)
+    placeTests = also Index (ltb (sizeOf c) i) (onSource (sourceOf c))
 
     abbrev getTests : Refusal → Bool
-    getTests = also Index (leb (sizeOf c) i) (onColumn c)
+    getTests = also Index (leb (sizeOf c) i) (onSource (sourceOf c))
 
     pub place-refuses : OfColumn (placeOf c i)
     unfolding placeOf
@@ -88,15 +89,15 @@ module _ (c : Column) where
     unfolding placeOf sound
     place-accepts = Iff·trans (accepted-exactly (plainly _) placeTests) (simp reading Iff·rfl)
 
-    pub get-refuses : OfColumn (getOf c i)
+    pub get-refuses : OfColumn (getOf (sourceOf c) i)
     unfolding getOf
     get-refuses = column-tests (source-tests (plainly _) getTests (sourceOf c) refl refl refl)
 
     -- "element asked at index ≥ length"
-    pub get-refuses-4 : (getOf c i ≡ Number 4) ↔ ((sound c ≡ true) × (sizeOf c ≤ i))
+    pub get-refuses-4 : (getOf (sourceOf c) i ≡ Number 4) ↔ ((sound c ≡ true) × (sizeOf c ≤ i))
     unfolding getOf someOf earlier sound
     get-refuses-4 = Iff·trans (exact (plainly _) getTests Index refl) (simp reading Iff·rfl)
 
-    pub get-accepts : (accepted (getOf c i) ≡ true) ↔ ((sound c ≡ true) × (i < sizeOf c))
+    pub get-accepts : (accepted (getOf (sourceOf c) i) ≡ true) ↔ ((sound c ≡ true) × (i < sizeOf c))
     unfolding getOf sound
     get-accepts = Iff·trans (accepted-exactly (plainly _) getTests) (simp reading Iff·rfl)

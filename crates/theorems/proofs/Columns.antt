@@ -20,11 +20,12 @@ use Rattle.keys.specs.Widths.{fitsIn, half64}
 use Rattle.keys.proofs.Widths.{in-mag}
 use Rattle.meaning.specs.Refusals.{Said, fine, Gives, Number, tried}
 use Rattle.meaning.specs.Sequence.{Sequence, inWindow, rises}
-use Rattle.meaning.specs.Column.{Column, startOf, endOf, stepOf, endBefore, runs, sizeOf, offset, runOf, offsetOf, elementAt, shapeOk, endsOk, runOk, reachOk, sound}
+use Rattle.meaning.specs.Column.{Column, startOf, endOf, stepOf, endBefore, runs, sizeOf, offset, runOf, offsetOf, elementAt, shapeOk, endsOk, runOk, reachOk, sound, sourceOf}
 use Rattle.meaning.specs.Calls.{Place, checkOf, placeOf}
 use Rattle.loftsplice.specs.declared.scan.State.the-variants.{Fresh, Ended}
 use Rattle.loftsplice.specs.Scan.{fresh, put, goTo, nextFrom}
-use Rattle.meaning.proofs.Judging.{passed, sound-first}
+use Rattle.meaning.proofs.Judging.{passed, passes-first, passes-sound, sound-passes}
+use Rattle.meaning.proofs.Calls.{check-fine}
 use Rattle.meaning.proofs.Runs.{end-le-before, run-above, run-from, run-there, run-in, run-past}
 use Rattle.meaning.proofs.Soundness.{shape-parts, ends-rise, run-fits}
 
@@ -64,7 +65,7 @@ unfolding placeOf tried
 length-placed c ok =
     let here = length-place c (sound-tests c .0 ok .1) in
     let rest : Said Place = cond (ltb (sizeOf c) (sizeOf c)) (Number 4) (Gives (record { run = runOf (c .ends) (sizeOf c); offset = offsetOf (c .ends) (sizeOf c) })) in
-    sym (sound-first c Number rest ok) ∙ rw (le-ltb (sizeOf c) (sizeOf c) (le-refl _), here .1, here .0)
+    sym (passes-first (sourceOf c) Number rest (sound-passes c ok)) ∙ rw (le-ltb (sizeOf c) (sizeOf c) (le-refl _), here .1, here .0)
 
 -- ---- elements
 
@@ -105,9 +106,9 @@ elements-fit c starts ok = let is = sound-tests c .0 ok in reach-exactly half64 
 
 -- ---- the check
 
-pub sound-exactly : (c : Column) → (sound c ≡ true) ↔ (checkOf c ≡ Gives fine)
+pub sound-exactly : (c : Column) → (sound c ≡ true) ↔ (checkOf (sourceOf c) ≡ Gives fine)
 unfolding checkOf tried
-sound-exactly c = (λ h. sym (sound-first c Number (Gives fine) h), λ h. passed c (sym h))
+sound-exactly c = (λ h. sym (check-fine (sourceOf c) (sound-passes c h)), λ h. passes-sound c (passed (sourceOf c) (sym h)))
 
 -- ---- windows
 

@@ -22,11 +22,12 @@ use Rattle.meaning.specs.Sequence.{Sequence, Source, elementsIn}
 use Rattle.meaning.proofs.Judging.{none-given}
 use Rattle.bounds.specs.declared.Bound.{Bound}
 use Rattle.filter_interval.specs.declared.Filter.{Filter}
+use Rattle.loftsplice.specs.declared.scan.Move.{Move}
 use Rattle.loftsplice.specs.Scan.{fresh}
-use Rattle.filter_interval.specs.Filter.{Move, Call, callOf, newFilter}
+use Rattle.filter_interval.specs.Filter.{Call, callOf, newFilter, answersOf}
 use Rattle.loftsplice.specs.Listing.{those}
 use Rattle.theorems.specs.Exact.{accepted}
-use Rattle.theorems.specs.Demand3.{answersOf, answers, moves, allLower, allUpper, meetsAll, tied, answerAt, counts, expectedFrom, expected}
+use Rattle.theorems.specs.Demand3.{answers, moves, allLower, allUpper, meetsAll, tied, answerAt, counts, expectedFrom, expected}
 use Rattle.theorems.specs.Runs.{letThrough, noneStays, isNext, suchElements, listing, walk, kept, only}
 use Rattle.theorems.proofs.FilterCalls.{call-keeps}
 use Rattle.theorems.proofs.Expected.{is-next, stays-none, nexts-list, walks}

@@ -13,6 +13,7 @@ use Rattle.ranges.proofs.Spans.{lt-or-ge}
 use Rattle.meaning.specs.Refusals.{Gives}
 use Rattle.meaning.specs.Sequence.{Sequence, Source}
 use Rattle.meaning.proofs.Judging.{none-given}
+use Rattle.loftsplice.specs.declared.scan.Move.the-variants.{Next, Seek}
 use Rattle.loftsplice.specs.declared.scan.State.{State}
 use Rattle.loftsplice.specs.declared.scan.State.the-variants.{Fresh, At, Ended}
 use Rattle.loftsplice.specs.declared.scan.Scan.{Scan}
@@ -20,7 +21,7 @@ use Rattle.bounds.specs.declared.Bounds.{Bounds}
 use Rattle.filter_interval.specs.declared.Filter.{Filter}
 use Rattle.loftsplice.specs.Scan.{Outcome, fresh, put, nextFrom, seekFrom, elementIn, indexIn, badScan, outside, newOf, nextOf, seekOf, narrowOf, resetOf, currentOf, posOf}
 use Rattle.bounds.specs.Bounds.{bounds}
-use Rattle.filter_interval.specs.Filter.{Next, Seek, newFilter, fitOf, filterResetOf}
+use Rattle.filter_interval.specs.Filter.{newFilter, fitOf, filterResetOf}
 use Rattle.theorems.specs.Exact.{accepted}
 use Rattle.theorems.specs.Runs.{standsIn, standing}
 use Rattle.theorems.proofs.ScanCalls.{new-accepts, new-does, next-accepts, next-does, seek-accepts, seek-does, narrow-accepts, narrow-does, reset-accepts, reset-does, current-accepts, current-does, pos-accepts, pos-does}

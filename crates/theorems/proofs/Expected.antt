@@ -15,7 +15,8 @@ use Rattle.ranges.proofs.Bools.{either, and-left, and-right, same-after}
 use Rattle.ranges.proofs.Spans.{first-known, first-now}
 use Rattle.meaning.specs.Refusals.{Said, Gives}
 use Rattle.meaning.specs.Sequence.{Sequence, elementsFor, elementsIn}
-use Rattle.filter_interval.specs.Filter.{Move, Next, Seek}
+use Rattle.loftsplice.specs.declared.scan.Move.the-variants.{Next, Seek}
+use Rattle.loftsplice.specs.declared.scan.Move.{Move}
 use Rattle.loftsplice.specs.Listing.{those}
 use Rattle.theorems.specs.Demand3.{earliest, answerAt, expectedFrom}
 use Rattle.theorems.specs.Runs.{isNone, noneStays, isNext, listing, notBelow, ahead, walk}

@@ -14,16 +14,17 @@ use Rattle.meaning.specs.declared.Refusal.{Refusal}
 use Rattle.meaning.specs.declared.Refusal.the-variants.{Order, Bounds as OverBounds, Input as NoInput}
 use Rattle.meaning.specs.Refusals.{Said, Gives, Number, nothing, also}
 use Rattle.meaning.specs.Sequence.{Sequence, Source, rises}
+use Rattle.loftsplice.specs.Lead.{onLead, leadFrom}
 use Rattle.loftsplice.specs.declared.scan.Scan.{Scan}
 use Rattle.bounds.specs.declared.Limit.{Limit}
 use Rattle.bounds.specs.declared.Bounds.{Bounds}
 use Rattle.filter_interval.specs.declared.FilterState.{FilterState}
 use Rattle.filter_interval.specs.declared.FilterState.the-variants.{Before, Within, After}
 use Rattle.filter_interval.specs.declared.Filter.{Filter}
-use Rattle.loftsplice.specs.Scan.{Outcome, badScan}
+use Rattle.loftsplice.specs.Scan.{Outcome, badScan, moveScan}
 use Rattle.bounds.specs.Bounds.{bounds}
-use Rattle.filter_interval.specs.Filter.{Call, Sifting, newFilter, accepts, settle, stepFrom, tooMany, unread, onFilter, refuseCall, fitOf, callOf, filterCurrentOf, upperOf, lowerOf, raised, arrive, moveScan}
-use Rattle.theorems.specs.Exact.{earlier, accepted, soundSource, allReadable}
+use Rattle.filter_interval.specs.Filter.{Call, Sifting, newFilter, accepts, settle, stepFrom, tooMany, unread, refuseCall, fitOf, callOf, filterCurrentOf, upperOf, lowerOf, raised, leadTo, allReadable}
+use Rattle.theorems.specs.Exact.{earlier, accepted, soundSource}
 use Rattle.theorems.proofs.Exactly.{Speaks, plainly, exact, accepted-exactly, refused-is, accepted-is, OfScan, scan-tests}
 use Rattle.theorems.proofs.ScanCalls.{scan-refuses, scan-accepts}
 
@@ -59,8 +60,8 @@ settle-accepted f up m = either (accepts up (m .said)) (λ t. rw t (answers (m .
 
 step-accepted : (q : Sequence) (k : Call) (f : Filter) (t : FilterState) → accepted (stepFrom q k f t .said) ≡ true
 unfolding stepFrom
-step-accepted q k f Before = settle-accepted f (upperOf f k) (arrive q (raised (k .move) (lowerOf f k)) (f .scan))
-step-accepted q k f (Within up) = settle-accepted f up (moveScan q (k .move) (f .scan))
+step-accepted q k f Before = settle-accepted f (upperOf f k) _
+step-accepted q k f (Within up) = settle-accepted f up _
 step-accepted q k f After = refl
 
 -- ---- the calls on a filter
@@ -80,42 +81,45 @@ module _ (p : Source) (f : Filter) where
 
   -- next and seek
   module _ (k : Call) where
+    abbrev tests : Refusal → Bool
+    tests = onLead p (tooMany k) (unread k (f .state)) (f .scan)
+
     calls : Speaks (λ (o : Sifting). o .said) (refuseCall f) (stepFrom (p .sequence) k f (f .state))
     calls = record { refuses = λ n. refl; accepts = step-accepted (p .sequence) k f (f .state) }
 
     pub call-refuses : OfScan p (f .scan) (callOf p k f .said)
     unfolding callOf
-    call-refuses = scan-tests calls (onFilter p k f) p refl refl refl (f .scan) refl
+    call-refuses = scan-tests calls tests p refl refl refl (f .scan) refl
 
     -- "in any filter state: over 16 bounds in a list, over 8 inputs"
     pub call-refuses-8 : (callOf p k f .said ≡ Number 8) ↔ ((soundSource p ≡ true) × (bad ≡ false) × (tooMany k ≡ true))
     unfolding callOf someOf earlier soundSource
-    call-refuses-8 = Iff·trans (exact calls (onFilter p k f) OverBounds refl) (simp reading Iff·rfl)
+    call-refuses-8 = Iff·trans (exact calls tests OverBounds refl) (simp reading Iff·rfl)
 
     -- "filter next or seek .. over a window that doesn't rise"
     pub call-refuses-7 : (callOf p k f .said ≡ Number 7) ↔ ((soundSource p ≡ true) × (bad ≡ false) × (tooMany k ≡ false) × (rising ≡ false))
     unfolding callOf someOf earlier soundSource
-    call-refuses-7 = Iff·trans (exact calls (onFilter p k f) Order refl) (simp reading Iff·rfl)
+    call-refuses-7 = Iff·trans (exact calls tests Order refl) (simp reading Iff·rfl)
 
     -- "Before only: a variable bound names an input that isn't there or has no value"
     pub call-refuses-9 : (callOf p k f .said ≡ Number 9)
         ↔ ((soundSource p ≡ true) × (bad ≡ false) × (tooMany k ≡ false) × (rising ≡ true) × ((f .state ≡ Before) × (allReadable k ≡ false)))
     unfolding callOf someOf earlier soundSource
-    call-refuses-9 = Iff·trans (exact calls (onFilter p k f) NoInput refl) (simp (before-only, reading) Iff·rfl)
+    call-refuses-9 = Iff·trans (exact calls tests NoInput refl) (simp (before-only, reading) Iff·rfl)
 
     pub call-accepts : (accepted (callOf p k f .said) ≡ true)
         ↔ ((soundSource p ≡ true) × (bad ≡ false) × (tooMany k ≡ false) × (rising ≡ true) × (unread k (f .state) ≡ false))
     unfolding callOf soundSource
-    call-accepts = Iff·trans (accepted-exactly calls (onFilter p k f)) (simp reading Iff·rfl)
+    call-accepts = Iff·trans (accepted-exactly calls tests) (simp reading Iff·rfl)
 
     pub call-does : accepted (callOf p k f .said) ≡ true → callOf p k f ≡ stepFrom (p .sequence) k f (f .state)
     unfolding callOf
-    call-does = accepted-is calls (onFilter p k f)
+    call-does = accepted-is calls tests
 
     -- "scan and filter come back as they went in"
     pub call-keeps : accepted (callOf p k f .said) ≡ false → callOf p k f .filter ≡ f
     unfolding callOf
-    call-keeps h = ap (λ (o : Sifting). o .filter) (refused-is calls (onFilter p k f) h .1)
+    call-keeps h = ap (λ (o : Sifting). o .filter) (refused-is calls tests h .1)
 
   pub filter-current-refuses : OfScan p (f .scan) (filterCurrentOf p f)
   unfolding filterCurrentOf

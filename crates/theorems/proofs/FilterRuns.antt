@@ -17,6 +17,9 @@ use Rattle.ranges.proofs.Order.{lt-same, lt-not}
 use Rattle.ranges.proofs.Spans.{First, first-known, first-is, first-none, lt-or-ge}
 use Rattle.meaning.specs.Refusals.{Said, Gives}
 use Rattle.meaning.specs.Sequence.{Sequence, rises, firstNotBelow}
+use Rattle.loftsplice.specs.Lead.{onPast, leadFrom}
+use Rattle.loftsplice.specs.declared.scan.Move.the-variants.{Next, Seek}
+use Rattle.loftsplice.specs.declared.scan.Move.{Move}
 use Rattle.loftsplice.specs.declared.scan.State.{State}
 use Rattle.loftsplice.specs.declared.scan.State.the-variants.{Fresh, At, Ended}
 use Rattle.loftsplice.specs.declared.scan.Scan.{Scan}
@@ -28,9 +31,9 @@ use Rattle.bounds.specs.declared.Limit.the-variants.{Free, To}
 use Rattle.filter_interval.specs.declared.FilterState.{FilterState}
 use Rattle.filter_interval.specs.declared.FilterState.the-variants.{Before, Within, After}
 use Rattle.filter_interval.specs.declared.Filter.{Filter}
-use Rattle.loftsplice.specs.Scan.{fresh, put, goTo, nextFrom, seekFrom}
+use Rattle.loftsplice.specs.Scan.{fresh, put, goTo, nextFrom, seekFrom, moveScan}
 use Rattle.bounds.specs.Bounds.{inclusive, greater, meetsLower, within, above}
-use Rattle.filter_interval.specs.Filter.{Sifting, Move, Next, Seek, Call, past, arrive, raised, moveScan, settle, stepFrom}
+use Rattle.filter_interval.specs.Filter.{Sifting, Call, raised, settle, stepFrom, leadTo}
 use Rattle.theorems.specs.Demand3.{moves, earliest, answerAt, expectedFrom}
 use Rattle.theorems.proofs.Bounds.{lower-two}
 use Rattle.theorems.proofs.Expected.{nones, over-run}
@@ -51,7 +54,7 @@ filterOf s e l u t w = record { scan = put (fresh s e) t; lower = l; upper = u; 
 
 -- a first call that reads the bounds low and up
 abbrev pub begins : Sequence → ℕ → ℕ → Limit → Limit → Limit → Limit → Move → Sifting
-begins q s e l u up low m = settle (filterOf s e l u Fresh Before) up (arrive q (raised m low) (fresh s e))
+begins q s e l u up low m = settle (filterOf s e l u Fresh Before) up (leadFrom q (leadTo (raised m low)) (fresh s e))
 
 -- the two folded bounds
 abbrev pub both : Limit → Limit → ℤ → Bool
@@ -155,7 +158,7 @@ module _ (q : Sequence) (s e : ℕ) (rise : rises q s e ≡ true) where
         (firstFrom (λ k. both low up (q .at k) && not (ltZ (q .at k) x)) i e) (swapped x i)
 
     within-run : (ks : List Call) → Known ks
-    unfolding expectedFrom steps stepFrom
+    unfolding expectedFrom steps stepFrom leadFrom
     within-run [] i a b h = refl
     within-run (k ∷ ks) i a b h = by-move i a b h ks (within-run ks) (k .move)
 
@@ -169,22 +172,19 @@ module _ (q : Sequence) (s e : ℕ) (rise : rises q s e ≡ true) where
       (lt-or-ge r e)
 
   module _ (x : ℤ) (j : ℕ) where
-    abbrev exclusive : Bound
-    exclusive = record { boundary = Exclusive; value = x }
-
-    past-end : ltb j e ≡ false → past q exclusive (goTo q (fresh s e) j) ≡ goTo q (fresh s e) j
-    unfolding past goTo
+    past-end : ltb j e ≡ false → onPast q x (goTo q (fresh s e) j) ≡ goTo q (fresh s e) j
+    unfolding onPast goTo
     past-end b = rw b
 
-    past-stay : ltb j e ≡ true → ltZ (q .at j) x ≡ false → ltZ x (q .at j) ≡ true → past q exclusive (goTo q (fresh s e) j) ≡ goTo q (fresh s e) j
-    unfolding past goTo
+    past-stay : ltb j e ≡ true → ltZ (q .at j) x ≡ false → ltZ x (q .at j) ≡ true → onPast q x (goTo q (fresh s e) j) ≡ goTo q (fresh s e) j
+    unfolding onPast goTo
     past-stay b c d = rw (b, c, d)
 
-    past-step : ltb j e ≡ true → ltZ (q .at j) x ≡ false → ltZ x (q .at j) ≡ false → past q exclusive (goTo q (fresh s e) j) ≡ goTo q (fresh s e) (suc j)
-    unfolding past goTo nextFrom
+    past-step : ltb j e ≡ true → ltZ (q .at j) x ≡ false → ltZ x (q .at j) ≡ false → onPast q x (goTo q (fresh s e) j) ≡ goTo q (fresh s e) (suc j)
+    unfolding onPast goTo nextFrom
     past-step b c d = rw (b, c, d)
 
-    arrive-exclusive : First (λ i. not (ltZ (q .at i) x)) s e j → past q exclusive (goTo q (fresh s e) j) ≡ goTo q (fresh s e) (firstFrom (λ i. ltZ x (q .at i)) s e)
+    arrive-exclusive : First (λ i. not (ltZ (q .at i) x)) s e j → onPast q x (goTo q (fresh s e) j) ≡ goTo q (fresh s e) (firstFrom (λ i. ltZ x (q .at i)) s e)
     arrive-exclusive g =
         either (ltb j e)
         (λ b. let n : j < e = ltb-true j e b in let c : ltZ (q .at j) x ≡ false = not-no (ltZ (q .at j) x) (g .holds n) in
@@ -201,9 +201,9 @@ module _ (q : Sequence) (s e : ℕ) (rise : rises q s e ≡ true) where
         low : (k : ℕ) → s ≤ k → k < j → ltZ x (q .at k) ≡ false
         low k a b = lt-not (q .at k) x (not-false (ltZ (q .at k) x) (g .before k a b))
 
-  arrive-at : (t : BoundaryType) (x : ℤ) → arrive q (To (record { boundary = t; value = x })) (fresh s e)
+  arrive-at : (t : BoundaryType) (x : ℤ) → leadFrom q (leadTo (To (record { boundary = t; value = x }))) (fresh s e)
       ≡ goTo q (fresh s e) (firstFrom (λ i. meetsLower (q .at i) (record { boundary = t; value = x })) s e)
-  unfolding arrive past seekFrom meetsLower
+  unfolding leadFrom seekFrom meetsLower
   arrive-at Inclusive x = refl
   arrive-at Exclusive x = arrive-exclusive x (firstNotBelow q x s e) (first-known (λ i. not (ltZ (q .at i) x)) s e)
 
@@ -220,7 +220,7 @@ module _ (q : Sequence) (s e : ℕ) (rise : rises q s e ≡ true) where
   module _ (up l u : Limit) (ks : List Call) where
     -- with no lower bound
     pub first-open : (m : Move) → on q (begins q s e l u up Free m) ks ≡ From q e (both Free up) (earliest q e (both Free up) s s Next) ks
-    unfolding arrive nextFrom earliest
+    unfolding leadFrom nextFrom earliest
     first-open m =
         rw (raised-free m)
         (landed up (above Free) s s (le-refl s) (record { from = le-refl s; before = λ k x y. absurd (omega arith); holds = λ g. refl }) (both Free up) l u Fresh Before ks
@@ -237,7 +237,7 @@ module _ (q : Sequence) (s e : ℕ) (rise : rises q s e ≡ true) where
     first-low b (Seek x) =
         let j : ℕ = firstFrom (λ i. meetsLower (q .at i) b && not (ltZ (q .at i) x)) s e in
         let g : First (λ i. meetsLower (q .at i) b && not (ltZ (q .at i) x)) s e j = first-known (λ i. meetsLower (q .at i) b && not (ltZ (q .at i) x)) s e in
-        let y : arrive q (To (greater b (inclusive x))) (fresh s e) ≡ goTo q (fresh s e) j
+        let y : leadFrom q (leadTo (To (greater b (inclusive x)))) (fresh s e) ≡ goTo q (fresh s e) j
         = arrive-at (greater b (inclusive x) .boundary) (greater b (inclusive x) .value) ∙ ap (λ (i : ℕ). goTo q (fresh s e) i) (raised-meets b x) in
         rw y (landed up (λ v. meetsLower v b && not (ltZ v x)) s j (le-refl s) g (both (To b) up) l u Fresh Before ks
         (λ n o. within-run (To b) up l u ks j (g .from) n (and-left (meetsLower (q .at j) b) (not (ltZ (q .at j) x)) o))

@@ -12,9 +12,9 @@ use Rattle.bounds.specs.declared.Limit.{Limit}
 use Rattle.filter_interval.specs.declared.Filter.{Filter}
 use Rattle.loftsplice.specs.Scan.{fresh}
 use Rattle.bounds.specs.Bounds.{fold, greater, lesser, greatest, least, meetsLower, inputs, variables, asRead}
-use Rattle.filter_interval.specs.Filter.{Call, stepFrom, callOf, newFilter}
+use Rattle.filter_interval.specs.Filter.{Call, stepFrom, callOf, newFilter, answersOf}
 use Rattle.theorems.specs.Exact.{accepted}
-use Rattle.theorems.specs.Demand3.{answersOf, answers, moves, allLower, allUpper, meetsAll, tied, counts, expectedFrom}
+use Rattle.theorems.specs.Demand3.{answers, moves, allLower, allUpper, meetsAll, tied, counts, expectedFrom}
 use Rattle.theorems.specs.Runs.{letThrough}
 use Rattle.theorems.proofs.FilterCalls.{call-accepts, call-does}
 use Rattle.theorems.proofs.Bounds.{lower-all, upper-all, upper-untied, folded-twice}

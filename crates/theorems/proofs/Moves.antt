@@ -14,11 +14,12 @@ use Rattle.ranges.proofs.Bools.{and-left, and-right, or-right, or-false, not-no
 use Rattle.ranges.proofs.Spans.{First, first-known, lt-or-ge}
 use Rattle.meaning.specs.Refusals.{Gives}
 use Rattle.meaning.specs.Sequence.{Sequence, inWindow, firstNotBelow}
+use Rattle.loftsplice.specs.declared.scan.Move.the-variants.{Next, Seek}
+use Rattle.loftsplice.specs.declared.scan.Move.{Move}
 use Rattle.loftsplice.specs.declared.scan.State.{State}
 use Rattle.loftsplice.specs.declared.scan.State.the-variants.{Fresh, At, Ended}
 use Rattle.loftsplice.specs.declared.scan.Scan.{Scan}
-use Rattle.loftsplice.specs.Scan.{Outcome, fresh, put, goTo, nextFrom, seekFrom, badScan, outside}
-use Rattle.filter_interval.specs.Filter.{Move, Next, Seek, moveScan}
+use Rattle.loftsplice.specs.Scan.{Outcome, fresh, put, goTo, nextFrom, seekFrom, badScan, outside, moveScan}
 use Rattle.theorems.specs.Runs.{standsIn}
 
 -- ---- to an index, or to the end

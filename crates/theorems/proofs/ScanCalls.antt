@@ -13,13 +13,14 @@ use Rattle.meaning.specs.declared.Refusal.{Refusal}
 use Rattle.meaning.specs.declared.Refusal.the-variants.{Window, Order}
 use Rattle.meaning.specs.Refusals.{Said, Gives, Number, also, judged}
 use Rattle.meaning.specs.Sequence.{Sequence, Source, onSource, rises, firstNotBelow}
+use Rattle.loftsplice.specs.declared.scan.Move.the-variants.{Next, Seek}
+use Rattle.loftsplice.specs.declared.scan.Move.{Move}
 use Rattle.loftsplice.specs.declared.scan.State.{State}
 use Rattle.loftsplice.specs.declared.scan.State.the-variants.{Fresh, At, Ended}
 use Rattle.loftsplice.specs.declared.scan.Scan.{Scan}
-use Rattle.loftsplice.specs.Scan.{Outcome, fresh, goTo, nextFrom, seekFrom, elementIn, indexIn, badScan, onScan, onRising, refuse, newOf, nextOf, seekOf, narrowOf, resetOf, currentOf, posOf}
-use Rattle.filter_interval.specs.Filter.{Move, Next, Seek, moveScan}
+use Rattle.loftsplice.specs.Scan.{Outcome, fresh, goTo, nextFrom, seekFrom, elementIn, indexIn, badScan, onScan, onRising, refuse, newOf, nextOf, seekOf, narrowOf, resetOf, currentOf, posOf, moveScan, called, Go}
 use Rattle.theorems.specs.Exact.{earlier, accepted, soundSource}
-use Rattle.theorems.specs.Runs.{scanMove, allowedScan}
+use Rattle.theorems.specs.Runs.{allowedScan}
 use Rattle.theorems.proofs.Exactly.{Speaks, plainly, says, exact, accepted-exactly, refused-is, accepted-is, OfSource, OfScan, source-tests, scan-tests}
 
 -- ---- making a scan
@@ -201,15 +202,15 @@ module _ (p : Source) (s : Scan) where
   -- ---- next or seek
 
   -- accepted exactly if it is allowed
-  pub move-accepts : (m : Move) → accepted (scanMove p m s .said) ≡ allowedScan p m s
+  pub move-accepts : (m : Move) → accepted (called p (Go m) s .said) ≡ allowedScan p m s
   unfolding allowedScan
   move-accepts Next = same-test _ _ (Iff·trans next-accepts (simp reading Iff·rfl))
   move-accepts (Seek x) = same-test _ _ (Iff·trans (seek-accepts x) (simp reading Iff·rfl))
 
-  pub move-does : (m : Move) → accepted (scanMove p m s .said) ≡ true → scanMove p m s ≡ moveScan (p .sequence) m s
+  pub move-does : (m : Move) → accepted (called p (Go m) s .said) ≡ true → called p (Go m) s ≡ moveScan (p .sequence) m s
   move-does Next = next-does
   move-does (Seek x) = seek-does x
 
-  pub move-keeps : (m : Move) → accepted (scanMove p m s .said) ≡ false → scanMove p m s .scan ≡ s
+  pub move-keeps : (m : Move) → accepted (called p (Go m) s .said) ≡ false → called p (Go m) s .scan ≡ s
   move-keeps Next = next-keeps
   move-keeps (Seek x) = seek-keeps x

@@ -17,15 +17,16 @@ use Rattle.ranges.proofs.Spans.{first-known, first-now}
 use Rattle.ranges.proofs.Reading.{reading}
 use Rattle.meaning.specs.Refusals.{Gives}
 use Rattle.meaning.specs.Sequence.{Sequence, Source, rises, firstNotBelow, elementsIn}
+use Rattle.loftsplice.specs.declared.scan.Move.the-variants.{Next, Seek}
+use Rattle.loftsplice.specs.declared.scan.Move.{Move}
 use Rattle.loftsplice.specs.declared.scan.State.{State}
 use Rattle.loftsplice.specs.declared.scan.State.the-variants.{Fresh, At, Ended}
 use Rattle.loftsplice.specs.declared.scan.Scan.{Scan}
-use Rattle.loftsplice.specs.Scan.{Outcome, fresh, put, goTo, nextFrom, seekFrom, badScan, seekOf}
-use Rattle.filter_interval.specs.Filter.{Move, Next, Seek, moveScan}
+use Rattle.loftsplice.specs.Scan.{Outcome, fresh, put, goTo, nextFrom, seekFrom, badScan, seekOf, moveScan, called, Go, saysAll}
 use Rattle.loftsplice.specs.Listing.{those}
 use Rattle.theorems.specs.Exact.{accepted, soundSource}
 use Rattle.theorems.specs.Demand3.{earliest, answerAt, expectedFrom}
-use Rattle.theorems.specs.Runs.{scanMove, scanAnswers, isNext, allowedScan, risingWindow, listing, standing, anything}
+use Rattle.theorems.specs.Runs.{scanAnswers, isNext, allowedScan, risingWindow, listing, standing, anything}
 use Rattle.theorems.proofs.ScanCalls.{seek-keeps, move-accepts, move-does, move-keeps}
 use Rattle.theorems.proofs.Moves.{Landing, Restricted, fresh-restricted, restricted-bad, move-restricted}
 use Rattle.theorems.proofs.DocComments.{sought-lands, seek-finds}
@@ -55,14 +56,14 @@ module _ (p : Source) (s e : ℕ) where
       rw (restricted-bad (p .sequence) c r, r .same-start, r .same-end, restricted-bad (p .sequence) (fresh s e) (fresh-restricted s e))
 
   run-accepted : (ms : List Move) (c : Scan) → Restricted s e c → every accepted (scanAnswers p c ms) ≡ every (λ m. allowedScan p m (fresh s e)) ms
-  unfolding every scanAnswers
+  unfolding every saysAll
   run-accepted [] c r = refl
   run-accepted (m ∷ ms) c r =
       rw (move-accepts p c m ∙ allowed-alike m c r)
-      (ap (λ t. allowedScan p m (fresh s e) && t) (run-accepted ms (scanMove p m c .scan) next))
+      (ap (λ t. allowedScan p m (fresh s e) && t) (run-accepted ms (called p (Go m) c .scan) next))
     where
-      next : Restricted s e (scanMove p m c .scan)
-      next = either (accepted (scanMove p m c .said)) (λ t. rw (move-does p c m t) (move-restricted (p .sequence) c m r)) (λ t. rw (move-keeps p c m t) r)
+      next : Restricted s e (called p (Go m) c .scan)
+      next = either (accepted (called p (Go m) c .said)) (λ t. rw (move-does p c m t) (move-restricted (p .sequence) c m r)) (λ t. rw (move-keeps p c m t) r)
 
   -- A run on a fresh scan is accepted exactly if each of its calls is allowed on the fresh scan.
   pub run-accepted-exactly-if : (ms : List Move) → every accepted (scanAnswers p (fresh s e) ms) ≡ every (λ m. allowedScan p m (fresh s e)) ms
@@ -113,16 +114,16 @@ module _ (q : Sequence) (s e : ℕ) where
 run-answers : (p : Source) (s e : ℕ) (ms : List Move) (t : State) (a b : ℕ) → Stands s e t a b
     → every accepted (scanAnswers p (put (fresh s e) t) ms) ≡ true
     → scanAnswers p (put (fresh s e) t) ms ≡ expectedFrom (p .sequence) e anything a b ms
-unfolding every scanAnswers expectedFrom
+unfolding every saysAll expectedFrom
 run-answers p s e [] t a b h acc = refl
 run-answers p s e (m ∷ ms) t a b h acc =
     let c = put (fresh s e) t in
     let w = comes (p .sequence) s e m t a b h in
     let j = earliest (p .sequence) e anything a b m in
-    let o : scanMove p m c ≡ record { scan = put (fresh s e) (w .0); said = answerAt (p .sequence) e j }
-    = move-does p c m (and-left (accepted (scanMove p m c .said)) (every accepted (scanAnswers p (scanMove p m c .scan) ms)) acc) ∙ w .1 in
+    let o : called p (Go m) c ≡ record { scan = put (fresh s e) (w .0); said = answerAt (p .sequence) e j }
+    = move-does p c m (and-left (accepted (called p (Go m) c .said)) (every accepted (scanAnswers p (called p (Go m) c .scan) ms)) acc) ∙ w .1 in
     rw o (same-after (answerAt (p .sequence) e j) (run-answers p s e ms (w .0) (suc j) j (w .2)
-    (rw o at (and-right (accepted (scanMove p m c .said)) (every accepted (scanAnswers p (scanMove p m c .scan) ms)) acc))))
+    (rw o at (and-right (accepted (called p (Go m) c .said)) (every accepted (scanAnswers p (called p (Go m) c .scan) ms)) acc))))
 
 -- Each call on a fresh scan answers the earliest element of the window after the last one given (for a seek: at or after it, and not below the target);
 -- none exactly if there is no such element. Here the window need not rise.

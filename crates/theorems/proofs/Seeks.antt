@@ -18,8 +18,8 @@ use Rattle.ranges.proofs.Spans.{First, first-known, first-is, first-none, lt-or
 use Rattle.meaning.specs.Refusals.{Said, Gives, Number}
 use Rattle.meaning.specs.Sequence.{Sequence, rises}
 use Rattle.meaning.proofs.Judging.{none-given}
+use Rattle.loftsplice.specs.declared.scan.Move.the-variants.{Next, Seek}
 use Rattle.loftsplice.specs.Lead.{found}
-use Rattle.filter_interval.specs.Filter.{Next, Seek}
 use Rattle.theorems.specs.Demand3.{earliest, answerAt, expectedFrom}
 use Rattle.theorems.specs.Audit.{Holds, ascendingFrom, ascending, filled}
 use Rattle.theorems.proofs.Bounds.{equal-is}

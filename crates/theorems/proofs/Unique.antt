@@ -46,9 +46,8 @@ use Rattle.loftsplice.specs.declared.listing.Listed.the-variants.{Sum, Refused 
 use Rattle.checked.specs.Says.{saysChecked}
 use Rattle.loftsplice.specs.Says.{saysDifference, saysLength, saysEmptiness, saysPlaced, saysGot}
 use Rattle.loftsplice.specs.Scan.{saysAnswer, saysPosition, saysMade, outcomeOf, newOf, nextOf, seekOf, narrowOf, resetOf, currentOf, posOf}
-use Rattle.loftsplice.specs.Listing.{saysListed}
+use Rattle.loftsplice.specs.Listing.{saysListed, Batch, listOf, outAfter, countsAfter}
 use Rattle.filter_interval.specs.Filter.{Call, saysFitted, siftingOf, fitOf, callOf, filterCurrentOf, filterResetOf}
-use Rattle.theorems.specs.Batch.{Batch, answer, outAfter, countsAfter}
 
 -- ---- what each answer says
 
@@ -108,20 +107,20 @@ sifting-apart = undone siftingOf (λ o. record { filter = o .filter; answer = an
 pub diff-step-one : (previous current : ℤ) (x y : Difference) → saysDifference x ≡ diffStepOf previous current → saysDifference y ≡ diffStepOf previous current → x ≡ y
 diff-step-one previous current = one-result saysDifference difference-apart
 
-module _ (c : Column) where
-  pub check-one : (x y : Checked) → saysChecked x ≡ checkOf c → saysChecked y ≡ checkOf c → x ≡ y
+module _ (p : Source) where
+  pub check-one : (x y : Checked) → saysChecked x ≡ checkOf p → saysChecked y ≡ checkOf p → x ≡ y
   check-one = one-result saysChecked checked-apart
 
-  pub len-one : (x y : Length) → saysLength x ≡ lenOf c → saysLength y ≡ lenOf c → x ≡ y
+  pub len-one : (x y : Length) → saysLength x ≡ lenOf p → saysLength y ≡ lenOf p → x ≡ y
   len-one = one-result saysLength length-apart
 
-  pub is-empty-one : (x y : Emptiness) → saysEmptiness x ≡ isEmptyOf c → saysEmptiness y ≡ isEmptyOf c → x ≡ y
+  pub is-empty-one : (x y : Emptiness) → saysEmptiness x ≡ isEmptyOf p → saysEmptiness y ≡ isEmptyOf p → x ≡ y
   is-empty-one = one-result saysEmptiness emptiness-apart
 
-  pub place-one : (i : ℕ) (x y : Placed) → saysPlaced x ≡ placeOf c i → saysPlaced y ≡ placeOf c i → x ≡ y
-  place-one i = one-result saysPlaced placed-apart
+  pub place-one : (c : Column) (i : ℕ) (x y : Placed) → saysPlaced x ≡ placeOf c i → saysPlaced y ≡ placeOf c i → x ≡ y
+  place-one c i = one-result saysPlaced placed-apart
 
-  pub get-one : (i : ℕ) (x y : Got) → saysGot x ≡ getOf c i → saysGot y ≡ getOf c i → x ≡ y
+  pub get-one : (i : ℕ) (x y : Got) → saysGot x ≡ getOf p i → saysGot y ≡ getOf p i → x ≡ y
   get-one i = one-result saysGot got-apart
 
 -- variable bounds read: whatever the promise says, here said
@@ -165,7 +164,7 @@ module _ (p : Source) where
 
 -- the batch listing: its answer, and the content of both arrays, each promised as it is
 module _ (b : Batch) where
-  pub list-one : (x y : Listed) → saysListed x ≡ answer b → saysListed y ≡ answer b → x ≡ y
+  pub list-one : (x y : Listed) → saysListed x ≡ listOf b → saysListed y ≡ listOf b → x ≡ y
   list-one = one-result saysListed listed-apart
 
   pub list-out-one : (x y : List ℤ) → x ≡ outAfter b → y ≡ outAfter b → x ≡ y

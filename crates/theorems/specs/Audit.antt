@@ -9,10 +9,11 @@ use lib.IntN.{ℤ}
 use lib.Signed.{ltZ}
 use Rattle.meaning.specs.Refusals.{Said}
 use Rattle.meaning.specs.Sequence.{Sequence, Source}
+use Rattle.loftsplice.specs.declared.scan.Move.the-variants.{Seek}
 use Rattle.loftsplice.specs.declared.scan.Scan.{Scan}
 use Rattle.bounds.specs.declared.Bound.{Bound}
 use Rattle.loftsplice.specs.Lead.{found}
-use Rattle.filter_interval.specs.Filter.{Seek, Call, tooMany}
+use Rattle.filter_interval.specs.Filter.{Call, tooMany}
 use Rattle.theorems.specs.Demand3.{meetsAll}
 use Rattle.theorems.specs.Runs.{scanAnswers}
 

@@ -11,16 +11,13 @@ use Rattle.meaning.specs.Refusals.{Said, Gives}
 use Rattle.meaning.specs.Sequence.{Sequence, Source}
 use Rattle.bounds.specs.declared.Bound.{Bound}
 use Rattle.filter_interval.specs.declared.Filter.{Filter}
+use Rattle.loftsplice.specs.declared.scan.Move.the-variants.{Next, Seek}
+use Rattle.loftsplice.specs.declared.scan.Move.{Move}
 use Rattle.loftsplice.specs.Scan.{fresh}
 use Rattle.bounds.specs.Bounds.{isExclusive, meetsLower, meetsUpper, inputs, variables, asRead}
-use Rattle.filter_interval.specs.Filter.{Move, Next, Seek, Call, newFilter, callOf}
+use Rattle.filter_interval.specs.Filter.{Call, newFilter, answersOf}
 
 -- ---- a run of calls
-
--- "any run of .. next and seek calls": one after the other, each on the filter that the one before handed back
-unfoldable pub answersOf : Source → Filter → List Call → List (Said (Option ℤ))
-answersOf p f [] = []
-answersOf p f (k ∷ ks) = callOf p k f .said ∷ answersOf p (callOf p k f .filter) ks
 
 -- "a fresh scan on it, a new filter": what a first call k and calls ks after it answer
 abbrev pub answers : Source → ℕ → ℕ → List Bound → List Bound → Call → List Call → List (Said (Option ℤ))

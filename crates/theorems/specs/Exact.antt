@@ -27,7 +27,3 @@ accepted (Number n) = false
 -- a source that none of 1, 2 and 3 refuses
 unfoldable pub soundSource : Source → Bool
 soundSource p = not (p .shape) && not (p .ends) && not (p .reach)
-
--- 9 INPUT, the other way: every variable bound names an input that is there and has a value
-abbrev pub allReadable : Call → Bool
-allReadable k = readable (inputs (k .inputs)) (variables (k .lower)) && readable (inputs (k .inputs)) (variables (k .upper))

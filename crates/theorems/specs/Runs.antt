@@ -1,7 +1,7 @@
 -- More words for runs of calls: lists and walks, ties, runs on a scan, and which runs are accepted. Assumes nothing.
 use Prim.Native.Nat.{ℕ, zero, suc, _-_}
 use mathlib.Core.Bool.{Bool, true, false, cond, not, _&&_, _||_}
-use mathlib.Core.List.{List, [], _∷_}
+use mathlib.Core.List.{List, [], _∷_, map}
 use mathlib.Core.Option.{Option, some, none}
 use lib.Dec.{ltb}
 use lib.IntN.{ℤ}
@@ -9,6 +9,8 @@ use lib.Signed.{ltZ}
 use Rattle.ranges.specs.Ranges.{every}
 use Rattle.meaning.specs.Refusals.{Said, Gives, Number}
 use Rattle.meaning.specs.Sequence.{Sequence, Source, rises, elementsIn}
+use Rattle.loftsplice.specs.declared.scan.Move.the-variants.{Next, Seek}
+use Rattle.loftsplice.specs.declared.scan.Move.{Move}
 use Rattle.loftsplice.specs.declared.scan.State.{State}
 use Rattle.loftsplice.specs.declared.scan.State.the-variants.{Fresh, At, Ended}
 use Rattle.loftsplice.specs.declared.scan.Scan.{Scan}
@@ -16,11 +18,11 @@ use Rattle.bounds.specs.declared.Bound.{Bound}
 use Rattle.bounds.specs.declared.Limit.{Limit}
 use Rattle.bounds.specs.declared.Limit.the-variants.{Free, To}
 use Rattle.filter_interval.specs.declared.Filter.{Filter}
-use Rattle.loftsplice.specs.Scan.{Outcome, badScan, nextOf, seekOf}
+use Rattle.loftsplice.specs.Scan.{badScan, Go, saysAll}
 use Rattle.bounds.specs.Bounds.{meetsLower, meetsUpper}
-use Rattle.filter_interval.specs.Filter.{tooMany, Move, Next, Seek, Call, callOf}
+use Rattle.filter_interval.specs.Filter.{tooMany, Call, callOf, allReadable}
 use Rattle.loftsplice.specs.Listing.{those}
-use Rattle.theorems.specs.Exact.{accepted, soundSource, allReadable}
+use Rattle.theorems.specs.Exact.{accepted, soundSource}
 use Rattle.theorems.specs.Demand3.{allLower, allUpper, meetsAll, bothWays}
 
 -- ---- none stays, and next alone
@@ -85,15 +87,9 @@ letThrough lows ups v = every (meetsLower v) lows && (every (meetsUpper v) ups |
 
 -- ---- runs on a scan
 
--- next or seek
-abbrev pub scanMove : Source → Move → Scan → Outcome
-scanMove p Next s = nextOf p s
-scanMove p (Seek x) s = seekOf p x s
-
--- one after the other, each on the scan that the one before handed back
-unfoldable pub scanAnswers : Source → Scan → List Move → List (Said (Option ℤ))
-scanAnswers p s [] = []
-scanAnswers p s (m ∷ ms) = scanMove p m s .said ∷ scanAnswers p (scanMove p m s .scan) ms
+-- next and seek alone, one after the other
+abbrev pub scanAnswers : Source → Scan → List Move → List (Said (Option ℤ))
+scanAnswers p s ms = saysAll p s (map Go ms)
 
 -- with no bounds every element meets them
 abbrev pub anything : ℤ → Bool

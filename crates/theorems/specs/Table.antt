@@ -8,6 +8,9 @@ use Rattle.meaning.specs.Refusals.{Word, fine, Said, Gives, Number}
 use Rattle.meaning.specs.Sequence.{Source}
 use Rattle.meaning.specs.Column.{Column, columnOf, sizeOf, sourceOf}
 use Rattle.meaning.specs.Calls.{Place, diffStepOf, checkOf, placeOf, getOf}
+use Rattle.loftsplice.specs.Listing.{Batch, listOf, outAfter, countsAfter}
+use Rattle.loftsplice.specs.declared.scan.Move.the-variants.{Next, Seek}
+use Rattle.loftsplice.specs.declared.scan.Move.{Move}
 use Rattle.loftsplice.specs.declared.scan.State.the-variants.{At}
 use Rattle.loftsplice.specs.declared.scan.Scan.{Scan}
 use Rattle.meaning.specs.declared.Answer.{Answer}
@@ -23,9 +26,8 @@ use Rattle.bounds.specs.declared.Limit.the-variants.{Free}
 use Rattle.filter_interval.specs.declared.FilterState.{FilterState}
 use Rattle.filter_interval.specs.declared.FilterState.the-variants.{After}
 use Rattle.filter_interval.specs.declared.Filter.{Filter}
-use Rattle.loftsplice.specs.Scan.{Outcome, fresh, put, newOf, nextOf, seekOf, narrowOf, resetOf, currentOf, posOf}
-use Rattle.filter_interval.specs.Filter.{Move, Next, Seek, Call, Sifting, fitOf, callOf, filterCurrentOf, filterResetOf}
-use Rattle.theorems.specs.Batch.{Batch, answer, outAfter, countsAfter}
+use Rattle.loftsplice.specs.Scan.{fresh, put, newOf, currentOf, posOf, Call as ScanCall, Go, Narrow, Reset, saysAll, leftBy}
+use Rattle.filter_interval.specs.Filter.{Call, Sifting, fitOf, callOf, filterCurrentOf, filterResetOf}
 
 -- ---- columns, from "runs (start, step, length)"
 
@@ -65,50 +67,41 @@ pub data Seen : Type 0 where
   placed : Said Place → Seen
   -- what a scan said, call by call, and its index at the end
   scanned : List (Said (Option ℤ)) → Said (Option ℕ) → Seen
+  -- what a scan's current says
+  looked : Said (Option ℤ) → Seen
   -- what a filter said, call by call
   filtered : List (Said (Option ℤ)) → Seen
   -- what a listing answered, and what it left in the output and in the counts
   listed : Said ℕ → List ℤ → List ℕ → Seen
 
--- a call on a scan, which is put in numbers that are not below 0
-pub data Act : Type 0 where
-  next : Act
-  seek : ℕ → Act
-  narrow : ℕ → ℕ → Act
-  reset : Act
-  current : Act
+-- calls on a scan, put in numbers that are not below 0
+abbrev pub next : ScanCall
+next = Go Next
 
-abbrev pub act : Source → Act → Scan → Outcome
-act p next s = nextOf p s
-act p (seek x) s = seekOf p (pos x) s
-act p (narrow a b) s = narrowOf p a b s
-act p reset s = resetOf p s
-act p current s = record { scan = s; said = currentOf p s }
+abbrev pub seek : ℕ → ScanCall
+seek x = Go (Seek (pos x))
 
--- what the calls say, one after the other, and the scan that they leave
-unfoldable pub saids : Source → List Act → Scan → List (Said (Option ℤ))
-saids p [] s = []
-saids p (a ∷ more) s = let m = act p a s in m .said ∷ saids p more (m .scan)
+-- what calls on a scan of c say, and its index at the end; and its current at the end
+abbrev pub acts : Column → Scan → List ScanCall → Seen
+acts c s ks = scanned (saysAll (sourceOf c) s ks) (posOf (sourceOf c) (leftBy (sourceOf c) s ks))
 
-unfoldable pub left : Source → List Act → Scan → Scan
-left p [] s = s
-left p (a ∷ more) s = left p more (act p a s .scan)
-
--- on a scan of c
-abbrev pub acts : Column → Scan → List Act → Seen
-acts c s as′ = scanned (saids (sourceOf c) as′ s) (posOf (sourceOf c) (left (sourceOf c) as′ s))
+abbrev pub looks : Column → Scan → List ScanCall → Seen
+looks c s ks = looked (currentOf (sourceOf c) (leftBy (sourceOf c) s ks))
 
 -- on a scan that is at index i
-abbrev pub scanAt : Column → ℕ → List Act → Seen
-scanAt c i as′ = acts c (put (fresh 0 (sizeOf c)) (At i)) as′
+abbrev pub scanAt : Column → ℕ → List ScanCall → Seen
+scanAt c i ks = acts c (put (fresh 0 (sizeOf c)) (At i)) ks
 
 -- on a new scan
-abbrev pub onNew : Column → Said Scan → List Act → Seen
-onNew c (Gives s) as′ = acts c s as′
-onNew c (Number n) as′ = scanned (Number n ∷ []) (Number n)
+abbrev pub onNew : Said Scan → (Scan → Seen) → Seen
+onNew (Gives s) see = see s
+onNew (Number n) see = scanned (Number n ∷ []) (Number n)
 
-abbrev pub scan : Column → List Act → Seen
-scan c as′ = onNew c (newOf (sourceOf c)) as′
+abbrev pub scan : Column → List ScanCall → Seen
+scan c ks = onNew (newOf (sourceOf c)) (λ s. acts c s ks)
+
+abbrev pub current : Column → List ScanCall → Seen
+current c ks = onNew (newOf (sourceOf c)) (λ s. looks c s ks)
 
 -- a call on a filter: next or seek; reset, which answers nothing; current
 pub data FilterAct : Type 0 where
@@ -141,7 +134,7 @@ filterIn c t as′ = filtered (sifts (sourceOf c) as′ (record { scan = fresh 0
 abbrev pub list : Column → List ℕ → List ℕ → Bounds → Bounds → List ℤ → List ℕ → Seen
 list c ss es lows ups out counts =
     let b : Batch = record { source = sourceOf c; starts = ss; ends = es; lower = lows; upper = ups; out = out; counts = counts } in
-    listed (answer b) (outAfter b) (countsAfter b)
+    listed (listOf b) (outAfter b) (countsAfter b)
 
 -- lists by value: all of a list's items count
 abbrev pub these : List Bound → Bounds
@@ -215,9 +208,9 @@ own got want = record { number = none; got = got; want = want }
 abbrev pub table : List Row
 table =
     -- "C at 3 is 25, at 8 is 240; at 9 refused 4."
-    P 1 (element (getOf C 3)) (element (Gives (pos 25)))
-    ∷ P 1 (element (getOf C 8)) (element (Gives (pos 240)))
-    ∷ P 1 (element (getOf C 9)) (element (Number 4))
+    P 1 (element (getOf (sourceOf C) 3)) (element (Gives (pos 25)))
+    ∷ P 1 (element (getOf (sourceOf C) 8)) (element (Gives (pos 240)))
+    ∷ P 1 (element (getOf (sourceOf C) 9)) (element (Number 4))
     -- "place of 4 in C is (1,0), of 9 is (4,0); of 10 refused 4."
     ∷ P 2 (placed (placeOf C 4)) (placed (Gives (record { run = 1; offset = 0 })))
     ∷ P 2 (placed (placeOf C 9)) (placed (Gives (record { run = 4; offset = 0 })))
@@ -231,14 +224,14 @@ table =
     -- "C at index 5, seek 12: 31, index 5."
     ∷ P 6 (scanAt C 5 (seek 12 ∷ [])) (scanned (values (31 ∷ [])) (index 5))
     -- "C, window 3..8: next is 25; then seek 200: none."
-    ∷ P 7 (scan C (narrow 3 8 ∷ next ∷ seek 200 ∷ [])) (scanned (nothing ∷ value 25 ∷ nothing ∷ []) noIndex)
+    ∷ P 7 (scan C (Narrow 3 8 ∷ next ∷ seek 200 ∷ [])) (scanned (nothing ∷ value 25 ∷ nothing ∷ []) noIndex)
     -- "C, window 3..3 and 8..2: next none; 0..10 refused 5."
-    ∷ P 8 (scan C (narrow 3 3 ∷ next ∷ [])) (scanned (nothing ∷ nothing ∷ []) noIndex)
-    ∷ P 8 (scan C (narrow 8 2 ∷ next ∷ [])) (scanned (nothing ∷ nothing ∷ []) noIndex)
-    ∷ P 8 (scan C (narrow 0 10 ∷ [])) (scanned (Number 5 ∷ []) noIndex)
+    ∷ P 8 (scan C (Narrow 3 3 ∷ next ∷ [])) (scanned (nothing ∷ nothing ∷ []) noIndex)
+    ∷ P 8 (scan C (Narrow 8 2 ∷ next ∷ [])) (scanned (nothing ∷ nothing ∷ []) noIndex)
+    ∷ P 8 (scan C (Narrow 0 10 ∷ [])) (scanned (Number 5 ∷ []) noIndex)
     -- "D, whole, seek 6: refused 7; window 1..5, seek 6: 6, index 2."
     ∷ P 9 (scan D (seek 6 ∷ [])) (scanned (Number 7 ∷ []) noIndex)
-    ∷ P 9 (scan D (narrow 1 5 ∷ seek 6 ∷ [])) (scanned (nothing ∷ value 6 ∷ []) (index 2))
+    ∷ P 9 (scan D (Narrow 1 5 ∷ seek 6 ∷ [])) (scanned (nothing ∷ value 6 ∷ []) (index 2))
     -- "C, above 10 and at most 40: 15 20 25 30 31 40."
     ∷ P 10 (filter C (these (bound Exclusive 10 ∷ [])) (these (bound Inclusive 40 ∷ [])) (times 7 (call Next)))
     (filtered (values (15 ∷ 20 ∷ 25 ∷ 30 ∷ 31 ∷ 40 ∷ []) ++ nothing ∷ []))
@@ -246,8 +239,8 @@ table =
     ∷ P 11 (filter C (these []) (these (bound Inclusive 15 ∷ bound Exclusive 15 ∷ [])) (times 3 (call Next))) (filtered (values (10 ∷ 15 ∷ []) ++ nothing ∷ []))
     ∷ P 11 (filter C (these []) (these []) (call (Seek (pos 100)) ∷ [])) (filtered (values (10 ∷ [])))
     -- "one run (9223372036854775800, 1): length 8 is valid, length 9 refused 3."
-    ∷ P 12 (checked (checkOf (column (run 9223372036854775800 (pos 1) 8 ∷ [])))) (checked (Gives fine))
-    ∷ P 12 (checked (checkOf (column (run 9223372036854775800 (pos 1) 9 ∷ [])))) (checked (Number 3))
+    ∷ P 12 (checked (checkOf (sourceOf (column (run 9223372036854775800 (pos 1) 8 ∷ []))))) (checked (Gives fine))
+    ∷ P 12 (checked (checkOf (sourceOf (column (run 9223372036854775800 (pos 1) 9 ∷ []))))) (checked (Number 3))
     -- C below 40: an exclusive upper bound
     ∷ own (filter C (these []) (these (bound Exclusive 40 ∷ [])) (times 7 (call Next))) (filtered (values (10 ∷ 15 ∷ 20 ∷ 25 ∷ 30 ∷ 31 ∷ []) ++ nothing ∷ []))
     -- C above input 0 and at most input 1, which are 15 and 140 at the first call; what later calls hand over is not read
@@ -264,7 +257,7 @@ table =
     ∷ own (filter C (record { items = []; count = 17 }) (these []) []) (filtered (Number 8 ∷ []))
     ∷ own (filter C (these []) (these []) (counted 0 17 0 ∷ counted 16 16 8 ∷ counted 0 0 9 ∷ [])) (filtered (Number 8 ∷ value 10 ∷ Number 8 ∷ []))
     -- an ended scan whose window doesn't rise: next is none, seek is refused; the filter's next too
-    ∷ own (scan D (narrow 0 2 ∷ next ∷ next ∷ next ∷ next ∷ seek 6 ∷ []))
+    ∷ own (scan D (Narrow 0 2 ∷ next ∷ next ∷ next ∷ next ∷ seek 6 ∷ []))
     (scanned (nothing ∷ value 10 ∷ value 5 ∷ nothing ∷ nothing ∷ Number 7 ∷ []) noIndex)
     ∷ own (filter D (these []) (these []) (call Next ∷ [])) (filtered (Number 7 ∷ []))
     -- a filter that is After: 7 and 8 are given all the same, 9 is not
@@ -274,20 +267,21 @@ table =
     ∷ own (scanAt C 9 (next ∷ [])) (scanned (Number 6 ∷ []) (Number 6))
     ∷ own (acts C (fresh 0 10) (next ∷ [])) (scanned (Number 6 ∷ []) (Number 6))
     -- arrays of unequal length; an end that is not above the one before; one over 4,294,967,295; what is refused first
-    ∷ own (checked (checkOf (columnOf (pos 1 ∷ []) (1 ∷ []) []))) (checked (Number 1))
-    ∷ own (checked (checkOf (column (run 1 (pos 1) 3 ∷ run 9 (pos 1) 0 ∷ [])))) (checked (Number 2))
-    ∷ own (checked (checkOf (column (run 1 (pos 0) 4294967295 ∷ [])))) (checked (Gives fine))
-    ∷ own (checked (checkOf (column (run 1 (pos 0) 4294967296 ∷ [])))) (checked (Number 2))
-    ∷ own (checked (checkOf (column (run 9223372036854775800 (pos 1) 9 ∷ run 9 (pos 1) 0 ∷ [])))) (checked (Number 2))
+    ∷ own (checked (checkOf (sourceOf (columnOf (pos 1 ∷ []) (1 ∷ []) [])))) (checked (Number 1))
+    ∷ own (checked (checkOf (sourceOf (column (run 1 (pos 1) 3 ∷ run 9 (pos 1) 0 ∷ []))))) (checked (Number 2))
+    ∷ own (checked (checkOf (sourceOf (column (run 1 (pos 0) 4294967295 ∷ []))))) (checked (Gives fine))
+    ∷ own (checked (checkOf (sourceOf (column (run 1 (pos 0) 4294967296 ∷ []))))) (checked (Number 2))
+    ∷ own (checked (checkOf (sourceOf (column (run 9223372036854775800 (pos 1) 9 ∷ run 9 (pos 1) 0 ∷ []))))) (checked (Number 2))
     -- a step exists exactly in -32,768..32,767
     ∷ own (stepped (diffStepOf (pos 1) (pos 32768))) (stepped (some (pos 32767)))
     ∷ own (stepped (diffStepOf (pos 1) (pos 32769))) (stepped none)
     ∷ own (stepped (diffStepOf (pos 32768) (pos 0))) (stepped (some (negsuc 32767)))
     ∷ own (stepped (diffStepOf (pos 32769) (pos 0))) (stepped none)
     -- narrow replaces the window, and may widen it; reset keeps it
-    ∷ own (scan C (narrow 3 5 ∷ next ∷ current ∷ narrow 0 9 ∷ current ∷ next ∷ []))
-    (scanned (nothing ∷ value 25 ∷ value 25 ∷ nothing ∷ nothing ∷ value 10 ∷ []) (index 0))
-    ∷ own (scan C (narrow 3 5 ∷ next ∷ next ∷ next ∷ reset ∷ next ∷ []))
+    ∷ own (scan C (Narrow 3 5 ∷ next ∷ Narrow 0 9 ∷ next ∷ [])) (scanned (nothing ∷ value 25 ∷ nothing ∷ value 10 ∷ []) (index 0))
+    ∷ own (current C (Narrow 3 5 ∷ next ∷ [])) (looked (value 25))
+    ∷ own (current C (Narrow 3 5 ∷ next ∷ Narrow 0 9 ∷ [])) (looked nothing)
+    ∷ own (scan C (Narrow 3 5 ∷ next ∷ next ∷ next ∷ Reset ∷ next ∷ []))
     (scanned (nothing ∷ value 25 ∷ value 30 ∷ nothing ∷ nothing ∷ value 25 ∷ []) (index 3))
     -- a filter's reset doesn't touch the scan: without a lower bound the element that it stood on is passed, with one it may be given again
     ∷ own (filter C (these []) (these []) (look ∷ call Next ∷ look ∷ again ∷ look ∷ call Next ∷ []))
