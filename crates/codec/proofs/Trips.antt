@@ -15,6 +15,7 @@ use Rattle.keys.proofs.Widths.{in-mag}
 use Rattle.meaning.specs.Refusals.{Gives, Number}
 use Rattle.meaning.specs.Column.{Column, columnOf, startOf, endOf, stepOf, endBefore, runs, endsOk, reachOk, sound, sourceOf}
 use Rattle.meaning.specs.Parts.{joined}
+use Rattle.meaning.specs.Calls.{checkOf}
 use Rattle.meaning.proofs.Calls.{check-fine}
 use Rattle.meaning.proofs.Judging.{Clear, gives-clear, sound-passes}
 use Rattle.meaning.proofs.Tried.{clear-front, clear-gives}
@@ -149,7 +150,7 @@ module _ (c : Column) (s : sound c ≡ true) (held : Held c) (rest : List ℕ) w
       → (readOf (recordOf c ++ rest) starts ends steps ≡ Gives (record { count = runs c; used = length (recordOf c) })) × (columnIn (recordOf c ++ rest) ≡ c)
   read-written starts ends steps ls le lt =
       let same : columnTo written (runs c) ≡ c = rw runs-back at column-back in
-      (rw (record-length c) (sym (column-fine written starts ends steps (runs c) opens-back ls le lt (rw same (check-fine (sourceOf c) (sound-passes c s))))), column-back)
+      (rw (record-length c) (sym (column-fine written starts ends steps (runs c) opens-back ls le lt (check-fine (sourceOf c) (sound-passes c s) ∙ ap (λ (d : Column). checkOf (sourceOf d)) (sym same)))), column-back)
 
 -- ---- writing what was read
 

@@ -2,7 +2,7 @@
 use Prim.Native.Nat.{ℕ, suc}
 use mathlib.Core.Path.{_≡_, refl, sym, ap, subst, _∙_}
 use mathlib.Core.Bool.{false}
-use mathlib.Core.List.{List, [], _∷_}
+use mathlib.Core.List.{List, [], _∷_, map}
 use mathlib.Core.Logic.{_↔_}
 use lib.Dec.{ltb}
 use lib.IntN.{ℤ}
@@ -15,12 +15,13 @@ use Rattle.loftsplice.specs.declared.scan.State.the-variants.{Fresh, At, Ended}
 use Rattle.loftsplice.specs.declared.scan.Scan.{Scan}
 use Rattle.meaning.specs.declared.Answer.{Answer}
 use Rattle.meaning.specs.declared.Answer.the-variants.{Value, None, Refused}
-use Rattle.loftsplice.specs.Scan.{saysAnswer, Outcome, goTo, nextFrom, seekFrom, refuse, nextOf, seekOf, narrowOf, resetOf}
+use Rattle.loftsplice.specs.declared.scan.Move.the-variants.{Next, Seek}
+use Rattle.loftsplice.specs.Scan.{saysAnswer, Outcome, goTo, nextFrom, seekFrom, refuse, nextOf, seekOf, narrowOf, resetOf, Call, Go, Narrow, Reset, called, saysAll, leftBy}
 use Rattle.theorems.specs.Exact.{accepted}
 use Rattle.meaning.proofs.Unique.{one-result}
 use Rattle.theorems.proofs.Unique.{answer-apart}
 use Rattle.theorems.proofs.ScanCalls.{next-keeps, seek-keeps, narrow-keeps, reset-keeps}
-use Rattle.lent.specs.Lending.{Call, Next, Seek, Narrow, Reset, byValue, Handed, Lent, Run}
+use Rattle.lent.specs.Lending.{Handed, Lent, Run}
 
 -- ---- every call has an answer: what it says, an answer says
 
@@ -49,10 +50,10 @@ tried-answered s o h [] = h
 tried-answered s o h (t ∷ ts) = either (t .holds) (λ e. rw e (Refused (t .why), refl)) (λ e. rw e (tried-answered s o h ts))
 
 module _ (p : Source) where
-  answered : (k : Call) (s : Scan) → Answered (byValue p k s)
+  answered : (k : Call) (s : Scan) → Answered (called p k s)
   unfolding nextOf seekOf narrowOf resetOf
-  answered Next s = tried-answered s _ (next-answered (p .sequence) s (s .state)) _
-  answered (Seek x) s = tried-answered s _ (seek-answered (p .sequence) x s (s .state)) _
+  answered (Go Next) s = tried-answered s _ (next-answered (p .sequence) s (s .state)) _
+  answered (Go (Seek x)) s = tried-answered s _ (seek-answered (p .sequence) x s (s .state)) _
   answered (Narrow start end) s = tried-answered s _ (None, refl) _
   answered Reset s = tried-answered s _ (None, refl) _
 
@@ -69,9 +70,9 @@ module _ (p : Source) where
   pub refusal-leaves : (k : Call) (s : Scan) (why : Refusal) (t : Scan) → Lent p k s (Refused why) t → t ≡ s
   refusal-leaves k s why t h = h .1 ∙ keeps k (ap accepted (sym (h .0)))
     where
-      keeps : (k : Call) → accepted (byValue p k s .said) ≡ false → byValue p k s .scan ≡ s
-      keeps Next = next-keeps p s
-      keeps (Seek x) = seek-keeps p s x
+      keeps : (k : Call) → accepted (called p k s .said) ≡ false → called p k s .scan ≡ s
+      keeps (Go Next) = next-keeps p s
+      keeps (Go (Seek x)) = seek-keeps p s x
       keeps (Narrow start end) = narrow-keeps p s start end
       keeps Reset = reset-keeps p s
 
@@ -93,7 +94,7 @@ module _ (p : Source) where
   unfolding Run
   a-run [] s = ([], s, refl)
   a-run (k ∷ ks) s =
-      let m = byValue p k s .scan in
+      let m = called p k s .scan in
       let a = answered k s in
       let rest = a-run ks m in (a .0 ∷ rest .0, rest .1, (m, (a .1, refl), rest .2))
 
@@ -114,3 +115,14 @@ module _ (p : Source) where
   -- So a list of calls on a scan that is lent answers and leaves what the same list answers and leaves by value.
   pub lent-as-by-value : (ks : List Call) (s : Scan) (xs ys : List Answer) (t u : Scan) → Run (Lent p) s ks xs t → Run (Handed p) s ks ys u → (xs ≡ ys) × (t ≡ u)
   lent-as-by-value ks s xs ys t u g h = one-run ks s xs ys t u g (same-runs ks s ys u .1 h)
+
+  -- They are the run of calls: what the answers say, and the scan that is left, are the definitions' own.
+  pub lent-run : (ks : List Call) (s : Scan) (xs : List Answer) (t : Scan) → Run (Lent p) s ks xs t → (map saysAnswer xs ≡ saysAll p s ks) × (t ≡ leftBy p s ks)
+  unfolding Run saysAll leftBy
+  lent-run [] s [] t h = (refl, h)
+  lent-run [] s (x ∷ xs) t h = absurd h
+  lent-run (k ∷ ks) s [] t h = absurd h
+  lent-run (k ∷ ks) s (x ∷ xs) t h =
+      let rest = lent-run ks (h .0) xs t (h .2) in
+      let stands = h .1 .1 in
+      (λ i. h .1 .0 i ∷ (rest .0 ∙ ap (λ m. saysAll p m ks) stands) i, rest .1 ∙ ap (λ m. leftBy p m ks) stands)

@@ -2,14 +2,16 @@
 // A refusal leaves the scan as lent. Above each is one with plain parameters, which lends a scan of its own: whoever calls that lends nothing.
 ghost use mathlib.Core.Path.{_≡_};
 ghost use Rattle.meaning.specs.Contracts.{source};
-ghost use Rattle.loftsplice.specs.Scan.{saysAnswer, outcomeOf, nextOf, seekOf, narrowOf, resetOf};
+ghost use Rattle.loftsplice.specs.declared.scan.Move.the-variants.{Next, Seek};
+ghost use Rattle.loftsplice.specs.Scan.{outcomeOf, nextOf, seekOf, narrowOf, resetOf, Go, Narrow, Reset};
+ghost use Rattle.lent.specs.Lending.{Lent};
 use loftsplice::scan::Moved;
 use loftsplice::scan::Scan;
 use meaning::Answer;
 
 // The next element, or none; or refused 1, 2, 3, 6: `Scan::next`, where the scan stands.
 pub fn next(scan: &mut Scan, starts: &[i64], ends: &[u64], steps: &[i16]) -> Answer
-    ensures { λ r. ⌜ (saysAnswer r ≡ nextOf (source starts ends steps) (now (scan .entry)) .said) × (now (scan .exit) ≡ nextOf (source starts ends steps) (now (scan .entry)) .scan) ⌝ }
+    ensures { λ r. ⌜ Lent (source starts ends steps) (Go Next) (now (scan .entry)) r (now (scan .exit)) ⌝ }
 {
     let s = *scan;
     let m = s.next(starts, ends, steps);
@@ -28,7 +30,7 @@ pub fn lend_next(scan: Scan, starts: &[i64], ends: &[u64], steps: &[i16]) -> Mov
 
 // The first element from the current index on that is not below the target, or none; or refused 1, 2, 3, 6, 7: `Scan::seek`, where the scan stands.
 pub fn seek(scan: &mut Scan, starts: &[i64], ends: &[u64], steps: &[i16], target: i64) -> Answer
-    ensures { λ r. ⌜ (saysAnswer r ≡ seekOf (source starts ends steps) target (now (scan .entry)) .said) × (now (scan .exit) ≡ seekOf (source starts ends steps) target (now (scan .entry)) .scan) ⌝ }
+    ensures { λ r. ⌜ Lent (source starts ends steps) (Go (Seek target)) (now (scan .entry)) r (now (scan .exit)) ⌝ }
 {
     let s = *scan;
     let m = s.seek(starts, ends, steps, target);
@@ -54,7 +56,7 @@ pub fn narrow(
     start: u64,
     end: u64,
 ) -> Answer
-    ensures { λ r. ⌜ (saysAnswer r ≡ narrowOf (source starts ends steps) start end (now (scan .entry)) .said) × (now (scan .exit) ≡ narrowOf (source starts ends steps) start end (now (scan .entry)) .scan) ⌝ }
+    ensures { λ r. ⌜ Lent (source starts ends steps) (Narrow start end) (now (scan .entry)) r (now (scan .exit)) ⌝ }
 {
     let s = *scan;
     let m = s.narrow(starts, ends, steps, start, end);
@@ -80,7 +82,7 @@ pub fn lend_narrow(
 
 // The same window, before its first element; or refused 1, 2, 3, 6: `Scan::reset`, where the scan stands.
 pub fn reset(scan: &mut Scan, starts: &[i64], ends: &[u64], steps: &[i16]) -> Answer
-    ensures { λ r. ⌜ (saysAnswer r ≡ resetOf (source starts ends steps) (now (scan .entry)) .said) × (now (scan .exit) ≡ resetOf (source starts ends steps) (now (scan .entry)) .scan) ⌝ }
+    ensures { λ r. ⌜ Lent (source starts ends steps) Reset (now (scan .entry)) r (now (scan .exit)) ⌝ }
 {
     let s = *scan;
     let m = s.reset(starts, ends, steps);

@@ -17,6 +17,7 @@ use Rattle.codec.proofs.Bytes.{Bytes as AllBytes}
 use Rattle.codec.proofs.Columns.{runs-are}
 use Rattle.codec.proofs.Exact.{write-accepts}
 use Rattle.codec.proofs.Trips.{Held, same-column, read-written, found-is, write-read}
+use Rattle.meaning.proofs.Judging.{sound-passes}
 use Rattle.codec.proofs.Writing.{record-length, write-fine}
 use Rattle.record.specs.declared.ReadRecord.{ReadRecord}
 use Rattle.record.specs.declared.ReadRecord.the-variants.{Runs}
@@ -29,7 +30,7 @@ use Rattle.record.proofs.Unique.{read-apart, written-apart, ReadMeets, 
 wrote : (c : Column) (room n : ℕ) → writeOf c room ≡ Gives n → (sound c ≡ true) × (length (recordOf c) ≡ n)
 wrote c room n h =
     let fine = write-accepts c room .0 (n, h) in
-    (fine .0, record-length c ∙ same (write-fine c room (fine .0) (fine .1) ∙ h))
+    (fine .0, record-length c ∙ same (write-fine c room (sound-passes c (fine .0)) (fine .1) ∙ h))
   where
     same : Gives (6 + 14 * runs c) ≡ Gives n → 6 + 14 * runs c ≡ n
     same e = cc

@@ -1,13 +1,16 @@
 -- "If an answer is an enum, a definition states this paper's number and values for each of its cases." Assumes nothing.
 use Prim.Native.Nat.{ℕ}
+use mathlib.Core.List.{List}
+use lib.ListN.{length}
+use lib.IntN.{ℤ}
+use denote.Triple.Both.{Both}
+use denote.Ref.{RefT}
 use Rattle.meaning.specs.Refusals.{Said, Gives, Number, numberOf}
-use Rattle.codec.specs.Record.{Found}
+use Rattle.codec.specs.Record.{Found, readOf}
 use Rattle.record.specs.declared.ReadRecord.{ReadRecord}
 use Rattle.record.specs.declared.ReadRecord.the-variants.{Runs, Refused as ReadRefused}
 use Rattle.record.specs.declared.Written.{Written}
 use Rattle.record.specs.declared.Written.the-variants.{Bytes, Refused as WriteRefused}
-use Rattle.record.specs.declared.reading.Opened.{Opened}
-use Rattle.record.specs.declared.reading.Opened.the-variants.{Runs as OpenedRuns, Refused as OpenedRefused}
 
 -- "the run count and the bytes used", or a refusal
 abbrev pub saysRead : ReadRecord → Said Found
@@ -19,7 +22,6 @@ abbrev pub saysWritten : Written → Said ℕ
 saysWritten (Bytes n) = Gives n
 saysWritten (WriteRefused why) = Number (numberOf why)
 
--- the number of runs of a record whose length and kind are right, or a refusal
-abbrev pub saysOpened : Opened → Said ℕ
-saysOpened (OpenedRuns n) = Gives n
-saysOpened (OpenedRefused why) = Number (numberOf why)
+-- as a contract names it: what is to be said of these bytes, read into these arrays
+abbrev pub reading : {A B C D : Type 0} → Both (RefT (List ℕ)) A → Both (RefT (List ℤ)) B → Both (RefT (List ℕ)) C → Both (RefT (List ℤ)) D → Said Found
+reading bytes starts ends steps = readOf (bytes .entry .now) (length (starts .entry .now)) (length (ends .entry .now)) (length (steps .entry .now))

@@ -1,10 +1,9 @@
 // The stored record: a column as bytes, and bytes as a column. Both calls try all before they write anything.
 ghost use mathlib.Core.Path.{_≡_};
 ghost use lib.ListN.{length};
-ghost use Rattle.meaning.specs.Contracts.{column};
-ghost use Rattle.meaning.specs.Outputs.{after};
-ghost use Rattle.codec.specs.Record.{recordOf, writeOf, columnIn, readOf};
-ghost use Rattle.record.specs.Says.{saysRead, saysWritten};
+ghost use Rattle.meaning.specs.Contracts.{column, Leaves};
+ghost use Rattle.codec.specs.Record.{recordOf, writeOf, columnIn};
+ghost use Rattle.record.specs.Says.{saysRead, saysWritten, reading};
 use crate::reading::Opened;
 use crate::reading::check_runs;
 use crate::reading::open_record;
@@ -32,10 +31,10 @@ pub enum Written {
 
 // A record at the front of the bytes, into the first places of the three arrays; what follows the record is not read.
 pub fn read(bytes: &[u8], starts: &mut [i64], ends: &mut [u64], steps: &mut [i16]) -> ReadRecord
-    ensures { λ r. ⌜ saysRead r ≡ readOf (now (bytes .entry)) (length (now (starts .entry))) (length (now (ends .entry))) (length (now (steps .entry))) ⌝ }
-    ensures { λ r. ⌜ now (starts .exit) ≡ after (saysRead r) (columnIn (now (bytes .entry)) .starts) (now (starts .entry)) ⌝ }
-    ensures { λ r. ⌜ now (ends .exit) ≡ after (saysRead r) (columnIn (now (bytes .entry)) .ends) (now (ends .entry)) ⌝ }
-    ensures { λ r. ⌜ now (steps .exit) ≡ after (saysRead r) (columnIn (now (bytes .entry)) .steps) (now (steps .entry)) ⌝ }
+    ensures { λ r. ⌜ saysRead r ≡ reading bytes starts ends steps ⌝ }
+    ensures { λ r. ⌜ Leaves starts (saysRead r) (columnIn (now (bytes .entry)) .starts) ⌝ }
+    ensures { λ r. ⌜ Leaves ends (saysRead r) (columnIn (now (bytes .entry)) .ends) ⌝ }
+    ensures { λ r. ⌜ Leaves steps (saysRead r) (columnIn (now (bytes .entry)) .steps) ⌝ }
 {
     match open_record(bytes) {
         Opened::Refused(why) => ReadRecord::Refused(why),
@@ -63,7 +62,7 @@ pub fn read(bytes: &[u8], starts: &mut [i64], ends: &mut [u64], steps: &mut [i16
 // The record of a column, into the first places of the output.
 pub fn write(starts: &[i64], ends: &[u64], steps: &[i16], out: &mut [u8]) -> Written
     ensures { λ r. ⌜ saysWritten r ≡ writeOf (column starts ends steps) (length (now (out .entry))) ⌝ }
-    ensures { λ r. ⌜ now (out .exit) ≡ after (saysWritten r) (recordOf (column starts ends steps)) (now (out .entry)) ⌝ }
+    ensures { λ r. ⌜ Leaves out (saysWritten r) (recordOf (column starts ends steps)) ⌝ }
 {
     match check(starts, ends, steps) {
         Checked::Refused(why) => Written::Refused(why),

@@ -4,10 +4,11 @@ ghost use Prim.Native.Nat.{_+_, _*_, _≤_, _<_};
 ghost use lib.ListN.{length};
 ghost use lib.Seq.{sets};
 ghost use Rattle.checked.specs.Says.{saysChecked};
+ghost use Rattle.meaning.specs.Column.{sourceOf};
 ghost use Rattle.meaning.specs.Calls.{checkOf};
 ghost use Rattle.codec.specs.Record.{startIn, stepIn, countIn, columnTo};
 ghost use Rattle.codec.proofs.Opening.{openOf};
-ghost use Rattle.record.specs.Says.{saysOpened};
+ghost use Rattle.record.specs.Inner.{saysOpened, RoomFor};
 use crate::numbers::read_le;
 use checked::Checked;
 use checked::reaches;
@@ -105,7 +106,7 @@ pub(crate) fn read_runs(
     ends: &mut [u64],
     steps: &mut [i16],
 )
-    requires { ⌜ (n ≤ 4096) × (6 + 14 * n ≤ length (now bytes)) × (n ≤ length (now starts)) × (n ≤ length (now ends)) × (n ≤ length (now steps)) ⌝ }
+    requires { ⌜ RoomFor n bytes starts ends steps ⌝ }
     ensures { λ _. ⌜ now (starts .exit) ≡ sets (now (starts .entry)) 0 (columnTo (now (bytes .entry)) n .starts) ⌝ }
     ensures { λ _. ⌜ now (ends .exit) ≡ sets (now (ends .entry)) 0 (columnTo (now (bytes .entry)) n .ends) ⌝ }
     ensures { λ _. ⌜ now (steps .exit) ≡ sets (now (steps .entry)) 0 (columnTo (now (bytes .entry)) n .steps) ⌝ }

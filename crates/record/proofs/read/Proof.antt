@@ -11,7 +11,7 @@ use Rattle.checked.specs.Says.{saysChecked}
 use Rattle.codec.specs.Record.{startIn, stepIn, totalIn, runsIn}
 use Rattle.codec.proofs.Opening.{openOf, Opens}
 use Rattle.codec.proofs.Reading.{head-refused, known, no-starts, no-ends, no-steps, column-refused, column-fine}
-use Rattle.record.specs.Says.{saysOpened}
+use Rattle.record.specs.Inner.{saysOpened}
 use borrow.Author.Needs.{needs}
 use Rattle.record.proofs.read.Statement.{statement}
 use Rattle.record.proofs.read.Tie as tie

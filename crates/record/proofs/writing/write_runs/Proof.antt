@@ -87,7 +87,7 @@ loop-again c =
     let s = l .before .before .before in (
       omega arith,
       before-next (s .args .ends .now) (l .loop .i),
-      runs-stored _ (l .loop .i) (l .loop .last) _ _ (l .loop .out) (s .args .out .now) _ (l .loop .inv .1) (back w64 (getD (s .args .starts .now) (l .loop .i) (pos 0)) (r .before .before .write-run-arg2 .given))
+      runs-stored (columnNow (s .args .starts) (s .args .ends) (s .args .steps)) (l .loop .i) (l .loop .last) _ _ (l .loop .out) (s .args .out .now) _ (l .loop .inv .1) (back w64 (getD (s .args .starts .now) (l .loop .i) (pos 0)) (r .before .before .write-run-arg2 .given))
           (back w16 (getD (s .args .steps .now) (l .loop .i) (pos 0)) (r .before .write-run-arg3 .given)) (l .loop .inv .2) (r .write-run .ensures),
     )
 
