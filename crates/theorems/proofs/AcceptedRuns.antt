@@ -17,12 +17,11 @@ use Rattle.loftsplice.specs.declared.scan.Move.the-variants.{Next, Seek}
 use Rattle.loftsplice.specs.declared.scan.Scan.{Scan}
 use Rattle.bounds.specs.declared.Bound.{Bound}
 use Rattle.bounds.specs.declared.Limit.{Limit}
-use Rattle.bounds.specs.declared.Limit.the-variants.{Free, To}
 use Rattle.filter_interval.specs.declared.FilterState.{FilterState}
 use Rattle.filter_interval.specs.declared.FilterState.the-variants.{Before, Within, After}
 use Rattle.filter_interval.specs.declared.Filter.{Filter}
-use Rattle.loftsplice.specs.Scan.{Outcome, fresh, seekFrom, badScan, moveScan}
-use Rattle.bounds.specs.Bounds.{isExclusive, variables, readable, asRead}
+use Rattle.loftsplice.specs.Scan.{Outcome, fresh, badScan, moveScan}
+use Rattle.bounds.specs.Bounds.{variables, readable, asRead}
 use Rattle.loftsplice.specs.Lead.{found, onPast, leadFrom}
 use Rattle.filter_interval.specs.Filter.{Call, raised, lowerOf, upperOf, accepts, settle, stepFrom, tooMany, unread, callOf, newFilter, leadTo, allReadable, answersOf}
 use Rattle.theorems.specs.Exact.{accepted, soundSource}

@@ -14,16 +14,16 @@ use Rattle.meaning.specs.declared.Refusal.{Refusal}
 use Rattle.meaning.specs.declared.Refusal.the-variants.{Order, Bounds as OverBounds, Input as NoInput}
 use Rattle.meaning.specs.Refusals.{Said, Gives, Number, nothing, also}
 use Rattle.meaning.specs.Sequence.{Sequence, Source, rises}
-use Rattle.loftsplice.specs.Lead.{onLead, leadFrom}
+use Rattle.loftsplice.specs.Lead.{onLead}
 use Rattle.loftsplice.specs.declared.scan.Scan.{Scan}
 use Rattle.bounds.specs.declared.Limit.{Limit}
 use Rattle.bounds.specs.declared.Bounds.{Bounds}
 use Rattle.filter_interval.specs.declared.FilterState.{FilterState}
 use Rattle.filter_interval.specs.declared.FilterState.the-variants.{Before, Within, After}
 use Rattle.filter_interval.specs.declared.Filter.{Filter}
-use Rattle.loftsplice.specs.Scan.{Outcome, badScan, moveScan}
+use Rattle.loftsplice.specs.Scan.{Outcome, badScan}
 use Rattle.bounds.specs.Bounds.{bounds}
-use Rattle.filter_interval.specs.Filter.{Call, Sifting, newFilter, accepts, settle, stepFrom, tooMany, unread, refuseCall, fitOf, callOf, filterCurrentOf, upperOf, lowerOf, raised, leadTo, allReadable}
+use Rattle.filter_interval.specs.Filter.{Call, Sifting, newFilter, accepts, settle, stepFrom, tooMany, unread, refuseCall, fitOf, callOf, filterCurrentOf, upperOf, allReadable}
 use Rattle.theorems.specs.Exact.{earlier, accepted, soundSource}
 use Rattle.theorems.proofs.Exactly.{Speaks, plainly, exact, accepted-exactly, refused-is, accepted-is, OfScan, scan-tests}
 use Rattle.theorems.proofs.ScanCalls.{scan-refuses, scan-accepts}

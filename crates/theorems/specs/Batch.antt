@@ -3,15 +3,11 @@ use Prim.Native.Nat.{ℕ, suc, _+_}
 use mathlib.Core.Bool.{Bool, cond, not, _&&_}
 use mathlib.Core.List.{List, [], _∷_}
 use lib.Dec.{ltb}
-use lib.ListN.{length, getD, take, drop}
+use lib.ListN.{getD, take, drop}
 use lib.IntN.{ℤ}
 use Rattle.ranges.specs.Ranges.{every}
-use Rattle.meaning.specs.Refusals.{Said}
-use Rattle.meaning.specs.Outputs.{after}
-use Rattle.meaning.specs.Sequence.{Source, rises, elementsIn}
-use Rattle.bounds.specs.declared.Limit.{Limit}
-use Rattle.bounds.specs.declared.Bounds.{Bounds}
-use Rattle.bounds.specs.Bounds.{greatest, least, above, within, bounds}
+use Rattle.meaning.specs.Sequence.{rises, elementsIn}
+use Rattle.bounds.specs.Bounds.{above, within}
 use Rattle.loftsplice.specs.Listing.{Span, windowAt, tooWide, Batch, spans, low, up, outAfter, countsAfter}
 
 -- ---- one listing

@@ -10,7 +10,6 @@ use Rattle.ranges.specs.Ranges.{firstFrom, every, someOf}
 use Rattle.meaning.specs.Refusals.{Said, Gives}
 use Rattle.meaning.specs.Sequence.{Sequence, Source}
 use Rattle.bounds.specs.declared.Bound.{Bound}
-use Rattle.filter_interval.specs.declared.Filter.{Filter}
 use Rattle.loftsplice.specs.declared.scan.Move.the-variants.{Next, Seek}
 use Rattle.loftsplice.specs.declared.scan.Move.{Move}
 use Rattle.loftsplice.specs.Scan.{fresh}

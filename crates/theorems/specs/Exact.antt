@@ -6,8 +6,6 @@ use lib.Dec.{eqb}
 use Rattle.meaning.specs.declared.Refusal.{Refusal}
 use Rattle.meaning.specs.Refusals.{Said, Gives, Number, numberOf}
 use Rattle.meaning.specs.Sequence.{Source}
-use Rattle.bounds.specs.Bounds.{inputs, variables, readable}
-use Rattle.filter_interval.specs.Filter.{Call}
 
 -- "in the order 1, 2, 3, 6, 8, 4, 5, 7, 9, 10": those of an order before w
 unfoldable pub earlier : Refusal → List Refusal → List Refusal

@@ -1,5 +1,5 @@
 -- More words for runs of calls: lists and walks, ties, runs on a scan, and which runs are accepted. Assumes nothing.
-use Prim.Native.Nat.{ℕ, zero, suc, _-_}
+use Prim.Native.Nat.{ℕ, zero, suc}
 use mathlib.Core.Bool.{Bool, true, false, cond, not, _&&_, _||_}
 use mathlib.Core.List.{List, [], _∷_, map}
 use mathlib.Core.Option.{Option, some, none}
@@ -15,8 +15,6 @@ use Rattle.loftsplice.specs.declared.scan.State.{State}
 use Rattle.loftsplice.specs.declared.scan.State.the-variants.{Fresh, At, Ended}
 use Rattle.loftsplice.specs.declared.scan.Scan.{Scan}
 use Rattle.bounds.specs.declared.Bound.{Bound}
-use Rattle.bounds.specs.declared.Limit.{Limit}
-use Rattle.bounds.specs.declared.Limit.the-variants.{Free, To}
 use Rattle.filter_interval.specs.declared.Filter.{Filter}
 use Rattle.loftsplice.specs.Scan.{badScan, Go, saysAll}
 use Rattle.bounds.specs.Bounds.{meetsLower, meetsUpper}

@@ -41,7 +41,8 @@ use denote.Triple.Table.{entered, cited}
 use denote.Triple.Walked.{says, Stays, stay-none, stay-none-slice, walkOf, AllGo, goes-none, goes-none-slice, Walks, ends-at, walked, walk-meets}
 use denote.Exit.{yes}
 use Rattle.meaning.specs.Sequence.{Source}
-use Rattle.meaning.specs.Column.{columnOf, sourceOf}
+use Rattle.meaning.specs.Column.{sourceOf}
+use Rattle.meaning.specs.Contracts.{columnNow}
 use Rattle.loftsplice.specs.declared.scan.Scan.{Scan}
 use Rattle.meaning.specs.declared.Answer.{Answer}
 use Rattle.loftsplice.specs.declared.scan.Moved.{Moved}
@@ -50,7 +51,8 @@ use Rattle.loftsplice.proofs.scan.Scan.Laws as T′
 use Rattle.meaning.proofs.Answer as N
 use Rattle.meaning.proofs.Answer.Laws as N′
 use Rattle.loftsplice.proofs.scan.Moved as S
-use Rattle.lent.specs.Lending.{Narrow, Lent}
+use Rattle.loftsplice.specs.Scan.{Narrow}
+use Rattle.lent.specs.Lending.{Lent}
 use Rattle.lent.proofs.Lending.{lent-handed}
 use Rattle.lent.proofs.Walking.{scanVals, scanVal, movedVal, IsScan, IsMoved, scan-tells, answer-tells, both, answer-spelt, Beside, beside-copies, scan-lawful, answer-lawful, moved-lawful, scan-makes, moved-makes, with-copy, lies-in, lies-out}
 use Rattle.lent.proofs.narrow as callee
@@ -88,7 +90,7 @@ Callee 𝓤 H A mem run = tripleOf 𝓤 H A callee.signature (callee.spec 𝓤 H
 module _ {M : Type 1} (𝓤 : URA M) (H : Heap 𝓤) (A : Atoms 𝓤) (W : Given 𝓤 H A) (at-mem : Memory → SProp 𝓤) (run : Routine → Fun 𝓤)
     (κs : Lfts 3) (qs : Shares 3) (h : Scan) (starts : RefT (List ℤ)) (ends : RefT (List ℕ)) (steps : RefT (List ℤ)) (start : ℕ) (end : ℕ) where
   abbrev column : Source
-  column = sourceOf (columnOf (now starts) (now ends) (now steps))
+  column = sourceOf (columnNow starts ends steps)
 
   -- what the call promises of its answer and of the scan that was lent to it
   abbrev Said : Answer → Scan → Type 0

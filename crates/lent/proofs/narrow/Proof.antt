@@ -40,14 +40,16 @@ use denote.Triple.Table.{entered, cited}
 use denote.Triple.Walked.{says, Stays, stay-ref, stay-none, stay-none-slice, walkOf, AllGo, goes-ref, goes-none, goes-none-slice, Walks, ends-at, walked, walk-meets}
 use denote.Exit.{yes}
 use Rattle.meaning.specs.Sequence.{Source}
-use Rattle.meaning.specs.Column.{columnOf, sourceOf}
+use Rattle.meaning.specs.Column.{sourceOf}
+use Rattle.meaning.specs.Contracts.{columnNow}
 use Rattle.loftsplice.specs.declared.scan.Scan.{Scan}
 use Rattle.loftsplice.specs.declared.scan.Moved.{Moved}
 use Rattle.loftsplice.proofs.scan.Scan as T
 use Rattle.meaning.proofs.Answer as N
 use Rattle.loftsplice.proofs.scan.Moved as S
 use Rattle.loftsplice.proofs.scan.Moved.Laws as S′
-use Rattle.lent.specs.Lending.{Narrow, Handed}
+use Rattle.loftsplice.specs.Scan.{Narrow}
+use Rattle.lent.specs.Lending.{Handed}
 use Rattle.lent.proofs.Lending.{lent-handed}
 use Rattle.lent.proofs.Walking.{scanVals, answerVals, IsScan, IsAnswer, scan-tells, moved-tells, its-scan, its-answer, Beside, beside-copies, scan-lawful, answer-lawful, moved-lawful, scan-makes, answer-makes, with-scan}
 use Rattle.loftsplice.proofs.scan.Scan.narrow as callee
@@ -86,7 +88,7 @@ Callee 𝓤 H A mem run = tripleOf 𝓤 H A callee.signature (callee.spec 𝓤 H
 module _ {M : Type 1} (𝓤 : URA M) (H : Heap 𝓤) (A : Atoms 𝓤) (W : Given 𝓤 H A) (at-mem : Memory → SProp 𝓤) (run : Routine → Fun 𝓤)
     (κs : Lfts 4) (qs : Shares 4) (b o : ℕ) (γ : GName) (h : Scan) (starts : RefT (List ℤ)) (ends : RefT (List ℕ)) (steps : RefT (List ℤ)) (start : ℕ) (end : ℕ) where
   abbrev column : Source
-  column = sourceOf (columnOf (now starts) (now ends) (now steps))
+  column = sourceOf (columnNow starts ends steps)
 
   -- what the call by value promises of what it returns
   abbrev Said : Moved → Type 0

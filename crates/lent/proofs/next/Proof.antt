@@ -51,14 +51,17 @@ use denote.Triple.Table.{entered, cited}
 use denote.Triple.Walked.{says, Stays, stay-ref, stay-none-slice, walkOf, AllGo, goes-ref, goes-none-slice, Walks, ends-at, walked, walk-meets}
 use denote.Exit.{yes}
 use Rattle.meaning.specs.Sequence.{Source}
-use Rattle.meaning.specs.Column.{columnOf, sourceOf}
+use Rattle.meaning.specs.Column.{sourceOf}
+use Rattle.meaning.specs.Contracts.{columnNow}
 use Rattle.loftsplice.specs.declared.scan.Scan.{Scan}
 use Rattle.loftsplice.specs.declared.scan.Moved.{Moved}
 use Rattle.loftsplice.proofs.scan.Scan as T
 use Rattle.meaning.proofs.Answer as N
 use Rattle.loftsplice.proofs.scan.Moved as S
 use Rattle.loftsplice.proofs.scan.Moved.Laws as S′
-use Rattle.lent.specs.Lending.{Next, Handed}
+use Rattle.loftsplice.specs.declared.scan.Move.the-variants.{Next}
+use Rattle.loftsplice.specs.Scan.{Go}
+use Rattle.lent.specs.Lending.{Handed}
 use Rattle.lent.proofs.Lending.{lent-handed}
 use Rattle.lent.proofs.Walking.{scanVals, answerVals, IsScan, IsAnswer, scan-tells, moved-tells, its-scan, its-answer, Beside, beside-copies, scan-lawful, answer-lawful, moved-lawful, scan-makes, answer-makes, with-scan}
 use Rattle.loftsplice.proofs.scan.Scan.next as callee
@@ -91,11 +94,11 @@ Callee 𝓤 H A mem run = tripleOf 𝓤 H A callee.signature (callee.spec 𝓤 H
 module _ {M : Type 1} (𝓤 : URA M) (H : Heap 𝓤) (A : Atoms 𝓤) (W : Given 𝓤 H A) (at-mem : Memory → SProp 𝓤) (run : Routine → Fun 𝓤)
     (κs : Lfts 4) (qs : Shares 4) (b o : ℕ) (γ : GName) (h : Scan) (starts : RefT (List ℤ)) (ends : RefT (List ℕ)) (steps : RefT (List ℤ)) where
   abbrev column : Source
-  column = sourceOf (columnOf (now starts) (now ends) (now steps))
+  column = sourceOf (columnNow starts ends steps)
 
   -- what the call by value promises of what it returns
   abbrev Said : Moved → Type 0
-  Said m = Handed column Next h (m .answer) (m .scan)
+  Said m = Handed column (Go Next) h (m .answer) (m .scan)
 
   -- what stands beside the scan
   abbrev Rows : List RattleType
@@ -145,7 +148,7 @@ module _ {M : Type 1} (𝓤 : URA M) (H : Heap 𝓤) (A : Atoms 𝓤) (W : Given
       qed W (Left m) ∵
       suffices ! _ (ends-at 𝓤 H A next.ended stayed (next.clauses 𝓤 H A at-mem run) W ((κs, qs, tt, x, at), tt)
       (only (answerVals (m .answer))) (m .answer) (m .scan, (tt, (tt, (tt, tt)))) (tt, (tt, (tt, (tt, tt))))) $
-      says ! (lent-handed column Next h (m .answer) (m .scan) .1 e) $
+      says ! (lent-handed column (Go Next) h (m .answer) (m .scan) .1 e) $
       move ! (2 ∷ 3 ∷ []) $ join ! $ frame ! $ feqI ! (List Val) (vptr b o ∷ []) (vptr b o ∷ []) refl $ fjoin3 ! $ fjoin ! $
       owned ! N.the-row (Is N.the-row) (answer-makes 𝓤 H A W) (m .answer) _ is $ move ! (1 ∷ 0 ∷ []) $ done !
 
