@@ -1,0 +1,44 @@
+-- `flat::is_call` meets its contract. Assumes nothing.
+use mathlib.Core.Path.{sym, _∙_}
+use borrow.Author.Tests.{not-true, not-false}
+use Rattle.c_filter.specs.Filter.{goodLists}
+use borrow.Author.Needs.{needs}
+use Rattle.c_filter.proofs.flat.is_call.Statement.{statement}
+use Rattle.c_filter.proofs.flat.is_call.Tie as tie
+
+is-filter-requires : tie.Need-is-filter-requires
+is-filter-requires c κs = search needs
+
+returns : tie.Need-returns
+returns c = rw (sym (c .before .is-filter .ensures) ∙ not-true (c .before .is-filter .result) (c .if1 .taken))
+
+is-paired-requires : tie.Need-is-paired-requires
+is-paired-requires c κs = search needs
+
+returns-2 : tie.Need-returns-2
+returns-2 c = rw (sym (c .before .before .before .is-filter .ensures) ∙ not-false (c .before .before .before .is-filter .result) (c .before .before .if1 .left), sym (c .before .is-paired .ensures) ∙ not-true (c .before .is-paired .result) (c .if2 .taken))
+
+is-paired-requires-2 : tie.Need-is-paired-requires-2
+is-paired-requires-2 c κs = search needs
+
+returns-3 : tie.Need-returns-3
+returns-3 c = rw (sym (c .before .before .before .before .before .is-filter .ensures) ∙ not-false (c .before .before .before .before .before .is-filter .result) (c .before .before .before .before .if1 .left), sym (c .before .before .before .is-paired .ensures) ∙ not-false (c .before .before .before .is-paired .result) (c .before .before .if2 .left), sym (c .before .is-paired2 .ensures) ∙ not-true (c .before .is-paired2 .result) (c .if3 .taken))
+
+is-paired-requires-3 : tie.Need-is-paired-requires-3
+is-paired-requires-3 c κs = search needs
+
+returns-4 : tie.Need-returns-4
+returns-4 c = rw (sym (c .before .before .before .before .before .before .is-filter .ensures) ∙ not-false (c .before .before .before .before .before .before .is-filter .result) (c .before .before .before .before .before .if1 .left), sym (c .before .before .before .before .is-paired .ensures) ∙ not-false (c .before .before .before .before .is-paired .result) (c .before .before .before .if2 .left), sym (c .before .before .is-paired2 .ensures) ∙ not-false (c .before .before .is-paired2 .result) (c .before .if3 .left)) (c .is-paired3 .ensures)
+
+pub is-call-spec : {M : Type 1} → statement M
+is-call-spec =
+    tie.close
+    (tie.spec
+    is-filter-requires
+    returns
+    is-paired-requires
+    returns-2
+    is-paired-requires-2
+    returns-3
+    is-paired-requires-3
+    returns-4)
