@@ -16,19 +16,32 @@ is-paired-requires : tie.Need-is-paired-requires
 is-paired-requires c κs = search needs
 
 returns-2 : tie.Need-returns-2
-returns-2 c = rw (sym (c .before .before .before .is-filter .ensures) ∙ not-false (c .before .before .before .is-filter .result) (c .before .before .if1 .left), sym (c .before .is-paired .ensures) ∙ not-true (c .before .is-paired .result) (c .if2 .taken))
+unfolding goodLists
+returns-2 c =
+    let at-filter = c .before .before in
+    rw (sym (at-filter .before .is-filter .ensures) ∙ not-false (at-filter .before .is-filter .result) (at-filter .if1 .left), sym (c .before .is-paired .ensures) ∙ not-true (c .before .is-paired .result) (c .if2 .taken))
 
 is-paired-requires-2 : tie.Need-is-paired-requires-2
 is-paired-requires-2 c κs = search needs
 
 returns-3 : tie.Need-returns-3
-returns-3 c = rw (sym (c .before .before .before .before .before .is-filter .ensures) ∙ not-false (c .before .before .before .before .before .is-filter .result) (c .before .before .before .before .if1 .left), sym (c .before .before .before .is-paired .ensures) ∙ not-false (c .before .before .before .is-paired .result) (c .before .before .if2 .left), sym (c .before .is-paired2 .ensures) ∙ not-true (c .before .is-paired2 .result) (c .if3 .taken))
+unfolding goodLists
+returns-3 c =
+    let at-lower = c .before .before in
+    let at-filter = at-lower .before .before in
+    rw (sym (at-filter .before .is-filter .ensures) ∙ not-false (at-filter .before .is-filter .result) (at-filter .if1 .left), sym (at-lower .before .is-paired .ensures) ∙ not-false (at-lower .before .is-paired .result) (at-lower .if2 .left), sym (c .before .is-paired2 .ensures) ∙ not-true (c .before .is-paired2 .result) (c .if3 .taken))
 
 is-paired-requires-3 : tie.Need-is-paired-requires-3
 is-paired-requires-3 c κs = search needs
 
 returns-4 : tie.Need-returns-4
-returns-4 c = rw (sym (c .before .before .before .before .before .before .is-filter .ensures) ∙ not-false (c .before .before .before .before .before .before .is-filter .result) (c .before .before .before .before .before .if1 .left), sym (c .before .before .before .before .is-paired .ensures) ∙ not-false (c .before .before .before .before .is-paired .result) (c .before .before .before .if2 .left), sym (c .before .before .is-paired2 .ensures) ∙ not-false (c .before .before .is-paired2 .result) (c .before .if3 .left)) (c .is-paired3 .ensures)
+unfolding goodLists
+returns-4 c =
+    let at-upper = c .before in
+    let at-lower = at-upper .before .before in
+    let at-filter = at-lower .before .before in
+    rw (sym (at-filter .before .is-filter .ensures) ∙ not-false (at-filter .before .is-filter .result) (at-filter .if1 .left), sym (at-lower .before .is-paired .ensures) ∙ not-false (at-lower .before .is-paired .result) (at-lower .if2 .left), sym (at-upper .before .is-paired2 .ensures) ∙ not-false (at-upper .before .is-paired2 .result) (at-upper .if3 .left))
+    (c .is-paired3 .ensures)
 
 pub is-call-spec : {M : Type 1} → statement M
 is-call-spec =
