@@ -1,6 +1,6 @@
 /* Loftsplice: run-length columns (i64) whose every answer is proved. The C interface.
  *
- * Link libloftsplice_c.a, which `rt staticlib loftsplice_c` writes to target/staticlib (x86-64 Linux).
+ * Link libloftsplice.a, which `bash scripts/archive` writes to target/staticlib (x86-64 Linux).
  *
  * Every call is total and keeps nothing: any numbers and lists of any lengths may be handed over, and what can't be answered is refused, by
  * number, in `refusal` (0: accepted). A refused call changes nothing; a scan or filter comes back as it went in, every number of it.

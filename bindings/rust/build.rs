@@ -1,4 +1,4 @@
-//! Links the proved archive, libloftsplice_c.a: from the folder that LOFTSPLICE_LIB names, or from this repository's target/staticlib.
+//! Links the proved archive, libloftsplice.a: from the folder that LOFTSPLICE_LIB names, or from this repository's target/staticlib.
 use std::env;
 use std::path::PathBuf;
 
@@ -9,14 +9,14 @@ fn main() {
         None => PathBuf::from(env::var_os("CARGO_MANIFEST_DIR").expect("cargo sets it"))
             .join("../../target/staticlib"),
     };
-    let archive = folder.join("libloftsplice_c.a");
+    let archive = folder.join("libloftsplice.a");
     println!("cargo:rerun-if-changed={}", archive.display());
     if !archive.exists() {
         eprintln!("loftsplice: there is no {}", archive.display());
-        eprintln!("loftsplice: make it by `rt staticlib loftsplice_c` in the repository's root (it proves the library first),");
+        eprintln!("loftsplice: make it by `bash scripts/archive` in the repository's root (it proves the library first),");
         eprintln!("loftsplice: or name the folder that holds it in the environment variable LOFTSPLICE_LIB");
         std::process::exit(1);
     }
     println!("cargo:rustc-link-search=native={}", folder.display());
-    println!("cargo:rustc-link-lib=static=loftsplice_c");
+    println!("cargo:rustc-link-lib=static=loftsplice");
 }

@@ -1,9 +1,8 @@
 // The stored record: a column as bytes, and bytes as a column. Both calls try all before they write anything.
 ghost use mathlib.Core.Path.{_≡_};
-ghost use lib.ListN.{length};
 ghost use Rattle.meaning.specs.Contracts.{column, Leaves};
-ghost use Rattle.codec.specs.Record.{recordOf, writeOf, columnIn};
-ghost use Rattle.record.specs.Says.{saysRead, saysWritten, reading};
+ghost use Rattle.codec.specs.Record.{recordOf, columnIn};
+ghost use Rattle.record.specs.Says.{saysRead, saysWritten, reading, writing};
 use crate::reading::Opened;
 use crate::reading::check_runs;
 use crate::reading::open_record;
@@ -61,7 +60,7 @@ pub fn read(bytes: &[u8], starts: &mut [i64], ends: &mut [u64], steps: &mut [i16
 
 // The record of a column, into the first places of the output.
 pub fn write(starts: &[i64], ends: &[u64], steps: &[i16], out: &mut [u8]) -> Written
-    ensures { λ r. ⌜ saysWritten r ≡ writeOf (column starts ends steps) (length (now (out .entry))) ⌝ }
+    ensures { λ r. ⌜ saysWritten r ≡ writing (column starts ends steps) out ⌝ }
     ensures { λ r. ⌜ Leaves out (saysWritten r) (recordOf (column starts ends steps)) ⌝ }
 {
     match check(starts, ends, steps) {

@@ -1,0 +1,2 @@
+pub mod Filter
+pub mod Contracts

@@ -1,0 +1,141 @@
+// The calls on a filter.
+ghost use mathlib.Core.Path.{_≡_};
+ghost use Rattle.meaning.specs.Contracts.{source};
+ghost use Rattle.loftsplice.specs.declared.scan.Move.the-variants.{Next, Seek};
+ghost use Rattle.filter_interval.specs.Filter.{filterCurrentOf};
+ghost use Rattle.c_forms.specs.Answer.{flatAnswer};
+ghost use Rattle.c_filter.specs.Filter.{askFit, flatNewFilter, callFilter, askFilter, flatReset};
+ghost use Rattle.c_filter.specs.Contracts.{lists};
+use crate::flat::FlatFilter;
+use crate::flat::FlatNewFilter;
+use crate::flat::FlatReset;
+use crate::flat::FlatSifted;
+use crate::flat::filter_of;
+use crate::flat::flat_filter;
+use crate::flat::flat_new_filter;
+use crate::flat::flat_sifted;
+use crate::flat::is_call;
+use crate::flat::is_filter;
+use crate::flat::is_fit;
+use crate::flat::no_filter;
+use c_forms::answers::FlatAnswer;
+use c_forms::answers::bad_form;
+use c_forms::answers::flat_answer;
+use c_forms::limits::bounds_of;
+use c_forms::limits::inputs_of;
+use c_forms::limits::variables_of;
+use c_forms::scans::FlatScan;
+use c_forms::scans::scan_of;
+use filter_interval::Filter;
+
+// "Constant bounds are folded when a filter is made"; or refused 100, 8.
+#[no_mangle]
+pub extern "C" fn loftsplice_filter_new(
+    scan: FlatScan,
+    lows: &[i64],
+    lowkinds: &[u8],
+    ups: &[i64],
+    upkinds: &[u8],
+) -> FlatNewFilter
+    ensures { λ r. ⌜ r ≡ flatNewFilter (askFit scan (now (lows .entry)) (now (lowkinds .entry)) (now (ups .entry)) (now (upkinds .entry))) ⌝ }
+{
+    if is_fit(scan.state, lows.len(), lowkinds, ups.len(), upkinds) {
+        let lower = bounds_of(lows, lowkinds);
+        let upper = bounds_of(ups, upkinds);
+        flat_new_filter(Filter::new(scan_of(scan), lower, upper))
+    } else {
+        no_filter(100)
+    }
+}
+
+// The next element that meets the bounds, or none; or refused 100, 1, 2, 3, 6, 8, 7, 9.
+#[no_mangle]
+pub extern "C" fn loftsplice_filter_next(
+    filter: FlatFilter,
+    starts: &[i64],
+    ends: &[u64],
+    steps: &[i16],
+    lows: &[u64],
+    lowkinds: &[u8],
+    ups: &[u64],
+    upkinds: &[u8],
+    values: &[i64],
+    found: &[u8],
+) -> FlatSifted
+    ensures { λ r. ⌜ r ≡ callFilter (source starts ends steps) Next (lists lows lowkinds ups upkinds values found) filter ⌝ }
+{
+    if is_call(filter, lows, lowkinds, ups, upkinds, values, found) {
+        let lower = variables_of(lows, lowkinds);
+        let upper = variables_of(ups, upkinds);
+        let inputs = inputs_of(values, found);
+        let sifted = filter_of(filter).next(starts, ends, steps, lower, upper, inputs);
+        flat_sifted(filter, sifted)
+    } else {
+        let answer = bad_form();
+        FlatSifted { filter, answer }
+    }
+}
+
+// The first element from here on that is not below the target and meets the bounds, or none; or refused 100, 1, 2, 3, 6, 8, 7, 9.
+#[no_mangle]
+pub extern "C" fn loftsplice_filter_seek(
+    filter: FlatFilter,
+    starts: &[i64],
+    ends: &[u64],
+    steps: &[i16],
+    target: i64,
+    lows: &[u64],
+    lowkinds: &[u8],
+    ups: &[u64],
+    upkinds: &[u8],
+    values: &[i64],
+    found: &[u8],
+) -> FlatSifted
+    ensures { λ r. ⌜ r ≡ callFilter (source starts ends steps) (Seek target) (lists lows lowkinds ups upkinds values found) filter ⌝ }
+{
+    if is_call(filter, lows, lowkinds, ups, upkinds, values, found) {
+        let lower = variables_of(lows, lowkinds);
+        let upper = variables_of(ups, upkinds);
+        let inputs = inputs_of(values, found);
+        let sifted = filter_of(filter).seek(starts, ends, steps, target, lower, upper, inputs);
+        flat_sifted(filter, sifted)
+    } else {
+        let answer = bad_form();
+        FlatSifted { filter, answer }
+    }
+}
+
+// The element that the filter stands on, or none; or refused 100, 1, 2, 3, 6.
+#[no_mangle]
+pub extern "C" fn loftsplice_filter_current(
+    filter: FlatFilter,
+    starts: &[i64],
+    ends: &[u64],
+    steps: &[i16],
+) -> FlatAnswer
+    ensures { λ r. ⌜ r ≡ flatAnswer (askFilter filter (filterCurrentOf (source starts ends steps))) ⌝ }
+{
+    if is_filter(filter) {
+        flat_answer(filter_of(filter).current(starts, ends, steps))
+    } else {
+        bad_form()
+    }
+}
+
+// Before, and the scan as it stands; or refused 100.
+#[no_mangle]
+pub extern "C" fn loftsplice_filter_reset(filter: FlatFilter) -> FlatReset
+    ensures { λ r. ⌜ r ≡ flatReset filter ⌝ }
+{
+    if is_filter(filter) {
+        FlatReset {
+            refusal: 0,
+            filter: flat_filter(filter_of(filter).reset()),
+        }
+    } else {
+        FlatReset {
+            refusal: 100,
+            filter,
+        }
+    }
+}

@@ -1,0 +1,3 @@
+// The C interface: the interval filter.
+pub mod calls;
+pub mod flat;

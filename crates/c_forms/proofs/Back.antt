@@ -1,0 +1,53 @@
+-- Scans and limits as numbers, there and back. Assumes nothing.
+use mathlib.Core.Path.{_≡_, refl, ap}
+use mathlib.Core.Bool.{true, false}
+use lib.Dec.{eqb}
+use Rattle.bounds.specs.declared.BoundaryType.{BoundaryType}
+use Rattle.bounds.specs.declared.BoundaryType.the-variants.{Inclusive, Exclusive}
+use Rattle.bounds.specs.declared.Limit.{Limit}
+use Rattle.bounds.specs.declared.Limit.the-variants.{Free, To}
+use Rattle.loftsplice.specs.declared.scan.State.{State}
+use Rattle.loftsplice.specs.declared.scan.State.the-variants.{Fresh, At, Ended}
+use Rattle.loftsplice.specs.declared.scan.Scan.{Scan}
+use Rattle.c_forms.specs.Scan.{stateNumber, indexNumber, isState, stateOf, scanOf, flatScan}
+use Rattle.c_forms.specs.Limits.{kindNumber, boundaryOf, flatLimit, isLimit, limitOf}
+
+-- ---- a scan
+
+pub state-back : (t : State) → stateOf (stateNumber t) (indexNumber t) ≡ t
+state-back Fresh = refl
+state-back (At i) = refl
+state-back Ended = refl
+
+-- a scan that crosses and comes back is the same scan
+pub scan-back : (s : Scan) → scanOf (flatScan s) ≡ s
+scan-back s = ap (λ (t : State). record { start = s .start; end = s .end; state = t }) (state-back (s .state))
+
+-- what the library gives is a state
+pub state-given : (t : State) → isState (stateNumber t) ≡ true
+state-given Fresh = refl
+state-given (At i) = refl
+state-given Ended = refl
+
+-- ---- a limit
+
+pub boundary-back : (b : BoundaryType) → boundaryOf (kindNumber b) ≡ b
+boundary-back Inclusive = refl
+boundary-back Exclusive = refl
+
+-- a bound's kind is not 0, which is no bound, and is a limit's kind
+kind-there : (b : BoundaryType) → eqb (kindNumber b) 0 ≡ false
+kind-there Inclusive = refl
+kind-there Exclusive = refl
+
+kind-given : (b : BoundaryType) → isLimit (kindNumber b) ≡ true
+kind-given Inclusive = refl
+kind-given Exclusive = refl
+
+pub limit-back : (l : Limit) → limitOf (flatLimit l) ≡ l
+limit-back Free = refl
+limit-back (To b) = rw (kind-there (b .boundary), boundary-back (b .boundary))
+
+pub limit-given : (l : Limit) → isLimit (flatLimit l .kind) ≡ true
+limit-given Free = refl
+limit-given (To b) = kind-given (b .boundary)

@@ -1,0 +1,3 @@
+pub mod Carried
+pub mod Back
+pub mod Lists

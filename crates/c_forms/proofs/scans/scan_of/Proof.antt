@@ -1,0 +1,13 @@
+-- `scans::scan_of` meets its contract. Assumes nothing.
+use borrow.Author.Needs.{needs}
+use Rattle.c_forms.proofs.scans.scan_of.Statement.{statement}
+use Rattle.c_forms.proofs.scans.scan_of.Tie as tie
+
+state-of-requires : tie.Need-state-of-requires
+state-of-requires c κs = search needs
+
+returns : tie.Need-returns
+returns c = rw (c .state-of .ensures)
+
+pub scan-of-spec : {M : Type 1} → statement M
+scan-of-spec = tie.close (tie.spec state-of-requires returns)

@@ -1,0 +1,4 @@
+pub mod Flat
+pub mod Answer
+pub mod Scan
+pub mod Limits

@@ -1,0 +1,48 @@
+-- `loftsplice_scan_seek` meets its contract. Assumes nothing.
+use mathlib.Core.Path.{sym, _∙_}
+use mir.Facts.{toZ-ofZ}
+use Rattle.c_scan.proofs.Calls.{called, not-called}
+use borrow.Author.Needs.{needs}
+use Rattle.c_scan.proofs.loftsplice_scan_seek.Statement.{statement}
+use Rattle.c_scan.proofs.loftsplice_scan_seek.Tie as tie
+
+is-state-requires : tie.Need-is-state-requires
+is-state-requires c κs = search needs
+
+scan-of-requires : tie.Need-scan-of-requires
+scan-of-requires c κs = search needs
+
+seek-requires : tie.Need-seek-requires
+seek-requires c κs = search needs
+
+flat-moved-requires : tie.Need-flat-moved-requires
+flat-moved-requires c κs = search needs
+
+bad-form-requires : tie.Need-bad-form-requires
+bad-form-requires c κs = search needs
+
+returns : tie.Need-returns
+returns c =
+    let at-call = c .before in
+    let at-scan = at-call .before in
+    let at-test = at-scan .before in
+    let start = at-test .before .before .before in
+    called (start .args .scan) _ (sym (at-test .before .is-state .ensures) ∙ at-test .if1 .taken) (at-scan .scan-of .ensures) (rw (toZ-ofZ (start .fits .target)) at (at-call .seek .ensures)) (c .flat-moved .ensures)
+
+returns-2 : tie.Need-returns-2
+returns-2 c =
+    let at-test = c .before in
+    let start = at-test .before .before .before in
+    not-called (start .args .scan) _ (sym (at-test .before .is-state .ensures) ∙ at-test .if1 .left) (c .bad-form .ensures)
+
+pub loftsplice-scan-seek-spec : {M : Type 1} → statement M
+loftsplice-scan-seek-spec =
+    tie.close
+    (tie.spec
+    is-state-requires
+    scan-of-requires
+    seek-requires
+    flat-moved-requires
+    bad-form-requires
+    returns
+    returns-2)

@@ -1,4 +1,0 @@
-pub mod Carried
-pub mod Scans
-pub mod Lists
-pub mod Filters
