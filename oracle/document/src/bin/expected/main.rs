@@ -30,15 +30,24 @@ fn main() -> ExitCode {
 
 fn check() -> ExitCode {
     let files = stored();
-    let wrong: Vec<_> = files.iter().filter(|(name, data)| std::fs::read(root().join(name)).ok().as_ref() != Some(data)).collect();
-    for (name, _) in &wrong {
-        eprintln!("expected: {name} is not what document 01 says");
+    let mut wrong = 0;
+    for (name, data) in &files {
+        let there = std::fs::read(root().join(name)).unwrap_or_default();
+        if there != *data {
+            wrong += 1;
+            eprintln!("expected: {name} is not what document 01 says, from line {} on", 1 + lines_alike(&there, data));
+        }
     }
-    if !wrong.is_empty() {
+    if wrong > 0 {
         return ExitCode::FAILURE;
     }
     println!("expected: {} stored files are as document 01 says", files.len());
     ExitCode::SUCCESS
+}
+
+/// How many lines are the same before the first that differs.
+fn lines_alike(a: &[u8], b: &[u8]) -> usize {
+    a.split_inclusive(|&c| c == b'\n').zip(b.split_inclusive(|&c| c == b'\n')).take_while(|(a, b)| a == b).count()
 }
 
 /// The stored files, and what each must hold.
