@@ -1,5 +1,7 @@
 // Call sequences on scans that are lent, one call a line: what it answers, then the window and the state of the scan as it is given back.
 // After a refusal these are as they were lent.
+use crate::columns;
+use crate::columns::Ask;
 use loftsplice::scan::Scan;
 use loftsplice::scan::State;
 use shown::text;
@@ -31,7 +33,7 @@ fn reset(s: Scan, starts: &[i64], ends: &[u64], steps: &[i16]) -> Scan {
 }
 
 // On C: forward, never back by a seek, a window in it, and a window that is refused.
-fn moved(starts: &[i64], ends: &[u64], steps: &[i16]) {
+pub fn moved(starts: &[i64], ends: &[u64], steps: &[i16]) {
     let s = Scan {
         start: 0,
         end: 9,
@@ -54,7 +56,7 @@ fn moved(starts: &[i64], ends: &[u64], steps: &[i16]) {
 }
 
 // On D, which falls in its first run: a seek over the whole is refused, and leaves the scan where it was.
-fn falling(starts: &[i64], ends: &[u64], steps: &[i16]) {
+pub fn falling(starts: &[i64], ends: &[u64], steps: &[i16]) {
     let s = Scan {
         start: 0,
         end: 5,
@@ -78,7 +80,7 @@ fn each(s: Scan, starts: &[i64], ends: &[u64], steps: &[i16]) {
 }
 
 // Scans put together by hand: an end above the length, an index outside the window.
-fn bad(starts: &[i64], ends: &[u64], steps: &[i16]) {
+pub fn unsound(starts: &[i64], ends: &[u64], steps: &[i16]) {
     let long = Scan {
         start: 0,
         end: 10,
@@ -93,29 +95,25 @@ fn bad(starts: &[i64], ends: &[u64], steps: &[i16]) {
     each(out, starts, ends, steps);
 }
 
-fn columns() {
-    text(b"C\n");
-    moved(&[10, 30, 31, 40], &[4, 5, 6, 9], &[5, 0, -3, 100]);
-    text(b"D\n");
-    falling(&[10, 6], &[2, 5], &[-5, 1]);
-    text(b"an end above the length, an index outside the window\n");
-    bad(&[10, 30, 31, 40], &[4, 5, 6, 9], &[5, 0, -3, 100]);
-}
-
-fn damaged() {
-    text(b"damaged\n");
+// A scan that stands in its window, on a column that is refused.
+pub fn damaged(starts: &[i64], ends: &[u64], steps: &[i16]) {
     let s = Scan {
         start: 1,
         end: 3,
         state: State::At(2),
     };
-    each(s, &[10], &[2, 5], &[-5, 1]);
-    each(s, &[10, 6], &[2, 2], &[-5, 1]);
-    each(s, &[9223372036854775807], &[5], &[1]);
+    each(s, starts, ends, steps);
 }
 
 pub fn all() {
-    text(b"== lending\n");
-    columns();
-    damaged();
+    text(b"== lending\nC\n");
+    columns::c(Ask::LentMoved);
+    text(b"D\n");
+    columns::d(Ask::LentFalling);
+    text(b"an end above the length, an index outside the window\n");
+    columns::c(Ask::LentUnsound);
+    text(b"damaged\n");
+    columns::fewer_starts(Ask::LentDamaged);
+    columns::damaged(Ask::LentDamaged);
+    columns::one(9223372036854775807, 5, 1, Ask::LentDamaged);
 }

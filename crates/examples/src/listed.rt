@@ -1,5 +1,8 @@
 // Batch listings, one a line: the answer, then the whole output and the whole of the counts, so that what a call leaves alone shows too. Windows
 // that repeat, overlap and are empty, bounds of both kinds, and every refusal.
+ghost use Prim.Native.Nat.{_≤_};
+use crate::columns;
+use crate::columns::Ask;
 use bounds::Bound;
 use bounds::BoundaryType;
 use bounds::Bounds;
@@ -97,39 +100,71 @@ fn into(
     text(b"\n");
 }
 
-// With room for 16 values and 8 counts.
-fn line(
+// The first n of the starts and the first m of the ends are windows; room for so many values of 16 and so many counts of 8.
+fn within(
     starts: &[i64],
     ends: &[u64],
     steps: &[i16],
-    from: &[u64],
-    to: &[u64],
+    n: usize,
+    m: usize,
+    from: [u64; 4],
+    to: [u64; 4],
     lower: Bounds,
     upper: Bounds,
-) {
+    room: usize,
+    places: usize,
+)
+    requires { ⌜ (n ≤ 4) × (m ≤ 4) × (room ≤ 16) × (places ≤ 8) ⌝ }
+{
     let mut out = [-7i64; 16];
     let mut counts = [99u64; 8];
     into(
         starts,
         ends,
         steps,
-        from,
-        to,
+        &from[..n],
+        &to[..m],
         lower,
         upper,
-        &mut out,
-        &mut counts,
+        &mut out[..room],
+        &mut counts[..places],
     );
 }
 
-fn c_windows(starts: &[i64], ends: &[u64], steps: &[i16]) {
-    line(starts, ends, steps, &[0], &[9], none(), none());
+// With room for all.
+fn line(
+    starts: &[i64],
+    ends: &[u64],
+    steps: &[i16],
+    n: usize,
+    from: [u64; 4],
+    to: [u64; 4],
+    lower: Bounds,
+    upper: Bounds,
+)
+    requires { ⌜ n ≤ 4 ⌝ }
+{
+    within(starts, ends, steps, n, n, from, to, lower, upper, 16, 8);
+}
+
+pub fn on_c(starts: &[i64], ends: &[u64], steps: &[i16]) {
     line(
         starts,
         ends,
         steps,
-        &[0],
-        &[9],
+        1,
+        [0, 0, 0, 0],
+        [9, 0, 0, 0],
+        none(),
+        none(),
+    );
+    line(
+        starts,
+        ends,
+        steps,
+        1,
+        [0, 0, 0, 0],
+        [9, 0, 0, 0],
         exclusive(10),
         inclusive(40),
     );
@@ -137,31 +172,52 @@ fn c_windows(starts: &[i64], ends: &[u64], steps: &[i16]) {
         starts,
         ends,
         steps,
-        &[0, 3, 3, 8],
-        &[9, 8, 8, 2],
+        4,
+        [0, 3, 3, 8],
+        [9, 8, 8, 2],
         both(25),
         inclusive(140),
     );
-    line(starts, ends, steps, &[0, 0], &[9, 9], none(), both(15));
     line(
         starts,
         ends,
         steps,
-        &[4, 18446744073709551615, 100, 6],
-        &[5, 4, 9, 9],
+        2,
+        [0, 0, 0, 0],
+        [9, 9, 0, 0],
+        none(),
+        both(15),
+    );
+    line(
+        starts,
+        ends,
+        steps,
+        4,
+        [4, 18446744073709551615, 100, 6],
+        [5, 4, 9, 9],
         inclusive(31),
         exclusive(240),
     );
-    line(starts, ends, steps, &[], &[], exclusive(0), none());
-}
-
-fn d_windows(starts: &[i64], ends: &[u64], steps: &[i16]) {
     line(
         starts,
         ends,
         steps,
-        &[1, 1, 2, 0],
-        &[5, 5, 4, 1],
+        0,
+        [0, 0, 0, 0],
+        [0, 0, 0, 0],
+        exclusive(0),
+        none(),
+    );
+}
+
+pub fn on_d(starts: &[i64], ends: &[u64], steps: &[i16]) {
+    line(
+        starts,
+        ends,
+        steps,
+        4,
+        [1, 1, 2, 0],
+        [5, 5, 4, 1],
         none(),
         none(),
     );
@@ -169,122 +225,188 @@ fn d_windows(starts: &[i64], ends: &[u64], steps: &[i16]) {
         starts,
         ends,
         steps,
-        &[1, 1, 2],
-        &[5, 4, 4],
+        3,
+        [1, 1, 2, 0],
+        [5, 4, 4, 0],
         exclusive(5),
         exclusive(8),
     );
-    line(starts, ends, steps, &[1, 0], &[5, 2], none(), none());
-    line(starts, ends, steps, &[0, 1], &[5, 6], none(), none());
+    line(
+        starts,
+        ends,
+        steps,
+        2,
+        [1, 0, 0, 0],
+        [5, 2, 0, 0],
+        none(),
+        none(),
+    );
+    line(
+        starts,
+        ends,
+        steps,
+        2,
+        [0, 1, 0, 0],
+        [5, 6, 0, 0],
+        none(),
+        none(),
+    );
 }
 
 // With room for 10 values, and for 9.
-fn room(starts: &[i64], ends: &[u64], steps: &[i16]) {
-    let mut ten = [-7i64; 10];
-    let mut nine = [-7i64; 9];
-    let mut counts = [99u64; 2];
-    let mut others = [99u64; 2];
-    into(
+pub fn room(starts: &[i64], ends: &[u64], steps: &[i16]) {
+    within(
         starts,
         ends,
         steps,
-        &[0, 1],
-        &[9, 8],
+        2,
+        2,
+        [0, 1, 0, 0],
+        [9, 8, 0, 0],
         inclusive(20),
         inclusive(40),
-        &mut ten,
-        &mut counts,
+        10,
+        2,
     );
-    into(
+    within(
         starts,
         ends,
         steps,
-        &[0, 1],
-        &[9, 8],
+        2,
+        2,
+        [0, 1, 0, 0],
+        [9, 8, 0, 0],
         inclusive(20),
         inclusive(40),
-        &mut nine,
-        &mut others,
+        9,
+        2,
     );
 }
 
 // With a place for one count: 5 and 7 are tried before 10.
-fn one_place(starts: &[i64], ends: &[u64], steps: &[i16], from: &[u64], to: &[u64]) {
-    let mut out = [-7i64; 16];
-    let mut counts = [99u64; 1];
-    into(
+pub fn places(starts: &[i64], ends: &[u64], steps: &[i16]) {
+    within(
         starts,
         ends,
         steps,
-        from,
-        to,
+        1,
+        1,
+        [1, 0, 0, 0],
+        [5, 0, 0, 0],
         none(),
         none(),
-        &mut out,
-        &mut counts,
+        16,
+        1,
+    );
+    within(
+        starts,
+        ends,
+        steps,
+        2,
+        2,
+        [1, 2, 0, 0],
+        [5, 5, 0, 0],
+        none(),
+        none(),
+        16,
+        1,
+    );
+    within(
+        starts,
+        ends,
+        steps,
+        2,
+        2,
+        [0, 0, 0, 0],
+        [6, 5, 0, 0],
+        none(),
+        none(),
+        16,
+        1,
+    );
+    within(
+        starts,
+        ends,
+        steps,
+        2,
+        2,
+        [0, 0, 0, 0],
+        [5, 5, 0, 0],
+        none(),
+        none(),
+        16,
+        1,
     );
 }
 
-fn places(starts: &[i64], ends: &[u64], steps: &[i16]) {
-    one_place(starts, ends, steps, &[1], &[5]);
-    one_place(starts, ends, steps, &[1, 2], &[5, 5]);
-    one_place(starts, ends, steps, &[0, 0], &[6, 5]);
-    one_place(starts, ends, steps, &[0, 0], &[5, 5]);
-}
-
-// 256 windows, each empty, and one more.
-fn full(starts: &[i64], ends: &[u64], steps: &[i16]) {
-    let from = [7u64; 256];
-    let to = [0u64; 256];
+// So many windows from 7 to one end.
+fn many(starts: &[i64], ends: &[u64], steps: &[i16], n: usize, end: u64, places: usize)
+    requires { ⌜ (n ≤ 257) × (places ≤ 256) ⌝ }
+{
+    let from = [7u64; 257];
+    let to = [end; 257];
     let mut out = [-7i64; 1];
     let mut counts = [99u64; 256];
     into(
         starts,
         ends,
         steps,
-        &from,
-        &to,
+        &from[..n],
+        &to[..n],
         none(),
         none(),
         &mut out,
-        &mut counts,
+        &mut counts[..places],
     );
 }
 
-fn over(starts: &[i64], ends: &[u64], steps: &[i16]) {
-    let from = [7u64; 257];
-    let to = [10u64; 257];
-    let mut out = [-7i64; 1];
-    let mut counts = [99u64; 1];
-    into(
+// Starts without an end, 17 bounds and 16, 256 windows, each empty, and one more.
+pub fn limits(starts: &[i64], ends: &[u64], steps: &[i16]) {
+    within(
         starts,
         ends,
         steps,
-        &from,
-        &to,
+        2,
+        1,
+        [0, 0, 0, 0],
+        [9, 0, 0, 0],
         none(),
         none(),
-        &mut out,
-        &mut counts,
+        16,
+        8,
     );
-}
-
-fn too_many(starts: &[i64], ends: &[u64], steps: &[i16]) {
-    line(starts, ends, steps, &[0, 0], &[9], none(), none());
-    line(starts, ends, steps, &[0], &[10], so_many(17), none());
-    line(starts, ends, steps, &[0], &[10], so_many(16), none());
-    full(starts, ends, steps);
-    over(starts, ends, steps);
-}
-
-// From the least i64 to the greatest.
-fn far(starts: &[i64], ends: &[u64], steps: &[i16]) {
     line(
         starts,
         ends,
         steps,
-        &[0, 1],
-        &[5, 4],
+        1,
+        [0, 0, 0, 0],
+        [10, 0, 0, 0],
+        so_many(17),
+        none(),
+    );
+    line(
+        starts,
+        ends,
+        steps,
+        1,
+        [0, 0, 0, 0],
+        [10, 0, 0, 0],
+        so_many(16),
+        none(),
+    );
+    many(starts, ends, steps, 256, 0, 256);
+    many(starts, ends, steps, 257, 10, 1);
+}
+
+pub fn far(starts: &[i64], ends: &[u64], steps: &[i16]) {
+    line(
+        starts,
+        ends,
+        steps,
+        2,
+        [0, 1, 0, 0],
+        [5, 4, 0, 0],
         inclusive(-9223372036854775808),
         inclusive(9223372036854775807),
     );
@@ -292,42 +414,39 @@ fn far(starts: &[i64], ends: &[u64], steps: &[i16]) {
         starts,
         ends,
         steps,
-        &[0, 1],
-        &[5, 4],
+        2,
+        [0, 1, 0, 0],
+        [5, 4, 0, 0],
         exclusive(-9223372036854775808),
         exclusive(9223372036854775807),
     );
 }
 
-fn columns() {
-    text(b"C\n");
-    c_windows(&[10, 30, 31, 40], &[4, 5, 6, 9], &[5, 0, -3, 100]);
-    text(b"D\n");
-    d_windows(&[10, 6], &[2, 5], &[-5, 1]);
-}
-
-fn limits() {
-    text(b"room\n");
-    room(&[10, 30, 31, 40], &[4, 5, 6, 9], &[5, 0, -3, 100]);
-    places(&[10, 6], &[2, 5], &[-5, 1]);
-    text(b"too many\n");
-    too_many(&[10, 30, 31, 40], &[4, 5, 6, 9], &[5, 0, -3, 100]);
-}
-
-fn others() {
-    text(b"far\n");
-    far(
-        &[-9223372036854775808, 9223372036854775806],
-        &[3, 5],
-        &[32767, 1],
+pub fn damaged(starts: &[i64], ends: &[u64], steps: &[i16]) {
+    line(
+        starts,
+        ends,
+        steps,
+        1,
+        [0, 0, 0, 0],
+        [99, 0, 0, 0],
+        none(),
+        none(),
     );
-    text(b"damaged\n");
-    line(&[10, 6], &[2, 2], &[-5, 1], &[0], &[99], none(), none());
 }
 
 pub fn all() {
-    text(b"== listed\n");
-    columns();
-    limits();
-    others();
+    text(b"== listed\nC\n");
+    columns::c(Ask::ListedC);
+    text(b"D\n");
+    columns::d(Ask::ListedD);
+    text(b"room\n");
+    columns::c(Ask::ListedRoom);
+    columns::d(Ask::ListedPlaces);
+    text(b"too many\n");
+    columns::c(Ask::ListedLimits);
+    text(b"far\n");
+    columns::far(Ask::ListedFar);
+    text(b"damaged\n");
+    columns::damaged(Ask::ListedDamaged);
 }

@@ -1,4 +1,5 @@
 // Document 01's examples that are run. What this writes is held to what a model of document 01 says (oracle/document).
+mod columns;
 mod lending;
 mod listed;
 mod run_only;

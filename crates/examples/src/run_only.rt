@@ -1,4 +1,6 @@
 // Steps at the limits, 4,096 runs and one more, and columns index by index.
+use crate::columns;
+use crate::columns::Ask;
 use checked::check;
 use loftsplice::rle::get;
 use loftsplice::rle::is_empty;
@@ -29,7 +31,7 @@ fn limits() {
 }
 
 // 1, 2, 3 and so on.
-fn counted() -> [u64; 4097] {
+pub fn counted() -> [u64; 4097] {
     let mut ends = [0u64; 4097];
     let mut i = 0;
     while i < 4097 {
@@ -82,7 +84,7 @@ fn whole(starts: &[i64], ends: &[u64], steps: &[i16]) {
 }
 
 // All that the column calls say of a column, up to an index past its end.
-fn column(starts: &[i64], ends: &[u64], steps: &[i16], upto: u64) {
+pub fn column(starts: &[i64], ends: &[u64], steps: &[i16], upto: u64) {
     whole(starts, ends, steps);
     let mut i = 0;
     while i < upto {
@@ -93,31 +95,28 @@ fn column(starts: &[i64], ends: &[u64], steps: &[i16], upto: u64) {
 
 fn document() {
     text(b"C\n");
-    column(&[10, 30, 31, 40], &[4, 5, 6, 9], &[5, 0, -3, 100], 11);
+    columns::c(Ask::Indexed(11));
     text(b"D\n");
-    column(&[10, 6], &[2, 5], &[-5, 1], 7);
+    columns::d(Ask::Indexed(7));
     text(b"no runs\n");
-    column(&[], &[], &[], 2);
+    columns::none(Ask::Indexed(2));
 }
 
 // The last element is the greatest i64, or would lie beyond it; the longest column.
 fn edge() {
     text(b"the edge\n");
-    column(&[9223372036854775800], &[8], &[1], 9);
-    column(&[9223372036854775800], &[9], &[1], 1);
-    column(&[-9223372036854775808], &[4294967295], &[32767], 3);
+    columns::one(9223372036854775800, 8, 1, Ask::Indexed(9));
+    columns::one(9223372036854775800, 9, 1, Ask::Indexed(1));
+    columns::one(-9223372036854775808, 4294967295, 32767, Ask::Indexed(3));
 }
 
 fn damaged() {
     text(b"damaged\n");
-    column(&[1, 2], &[1], &[0], 1);
-    column(&[1, 2], &[5, 5], &[0, 0], 1);
-}
-
-fn beyond() {
-    column(&[1], &[0], &[0], 1);
-    column(&[1], &[4294967296], &[0], 1);
-    column(&[-9223372036854775808], &[2], &[-1], 1);
+    columns::more_starts(Ask::Indexed(1));
+    columns::same_ends(Ask::Indexed(1));
+    columns::one(1, 0, 0, Ask::Indexed(1));
+    columns::one(1, 4294967296, 0, Ask::Indexed(1));
+    columns::one(-9223372036854775808, 2, -1, Ask::Indexed(1));
 }
 
 pub fn all() {
@@ -127,5 +126,4 @@ pub fn all() {
     document();
     edge();
     damaged();
-    beyond();
 }

@@ -1,5 +1,7 @@
 // Call sequences on scans, one call a line: what it answers, then the scan's window and state. Windows inside falling runs, ends within a run,
 // starts beyond the column, the extremes of i64, and scans that are refused.
+use crate::columns;
+use crate::columns::Ask;
 use loftsplice::scan::Made;
 use loftsplice::scan::Scan;
 use loftsplice::scan::State;
@@ -63,7 +65,7 @@ fn stands(s: Scan, starts: &[i64], ends: &[u64], steps: &[i16]) {
     text(b"\n");
 }
 
-fn sought(starts: &[i64], ends: &[u64], steps: &[i16]) {
+pub fn sought(starts: &[i64], ends: &[u64], steps: &[i16]) {
     let s = made(starts, ends, steps);
     stands(s, starts, ends, steps);
     let s = seek(s, starts, ends, steps, 16);
@@ -77,7 +79,7 @@ fn sought(starts: &[i64], ends: &[u64], steps: &[i16]) {
     reset(s, starts, ends, steps);
 }
 
-fn windows(starts: &[i64], ends: &[u64], steps: &[i16]) {
+pub fn windows(starts: &[i64], ends: &[u64], steps: &[i16]) {
     let s = made(starts, ends, steps);
     let s = narrow(s, starts, ends, steps, 3, 8);
     let s = next(s, starts, ends, steps);
@@ -93,7 +95,7 @@ fn windows(starts: &[i64], ends: &[u64], steps: &[i16]) {
 }
 
 // D falls in its first run: the whole does not rise; from its second element on it does.
-fn falling(starts: &[i64], ends: &[u64], steps: &[i16]) {
+pub fn falling(starts: &[i64], ends: &[u64], steps: &[i16]) {
     let s = made(starts, ends, steps);
     let s = seek(s, starts, ends, steps, 6);
     let s = next(s, starts, ends, steps);
@@ -108,7 +110,7 @@ fn falling(starts: &[i64], ends: &[u64], steps: &[i16]) {
 }
 
 // From the least i64 to the greatest: distances that no i64 holds.
-fn far(starts: &[i64], ends: &[u64], steps: &[i16]) {
+pub fn far(starts: &[i64], ends: &[u64], steps: &[i16]) {
     let s = made(starts, ends, steps);
     let s = seek(s, starts, ends, steps, 0);
     let s = seek(s, starts, ends, steps, 9223372036854775806);
@@ -118,7 +120,7 @@ fn far(starts: &[i64], ends: &[u64], steps: &[i16]) {
 }
 
 // Scans put together by hand: an end above the length, an index outside the window.
-fn bad(starts: &[i64], ends: &[u64], steps: &[i16]) {
+pub fn unsound(starts: &[i64], ends: &[u64], steps: &[i16]) {
     let long = Scan {
         start: 0,
         end: 10,
@@ -136,32 +138,15 @@ fn bad(starts: &[i64], ends: &[u64], steps: &[i16]) {
     stands(out, starts, ends, steps);
 }
 
-fn on_c(starts: &[i64], ends: &[u64], steps: &[i16]) {
-    text(b"C\n");
-    sought(starts, ends, steps);
-    windows(starts, ends, steps);
-    bad(starts, ends, steps);
-}
-
-fn columns() {
-    on_c(&[10, 30, 31, 40], &[4, 5, 6, 9], &[5, 0, -3, 100]);
-    text(b"D\n");
-    falling(&[10, 6], &[2, 5], &[-5, 1]);
-}
-
-fn others() {
-    text(b"far\n");
-    far(
-        &[-9223372036854775808, 9223372036854775806],
-        &[3, 5],
-        &[32767, 1],
-    );
-    text(b"damaged\n");
-    falling(&[10, 6], &[2, 2], &[-5, 1]);
-}
-
 pub fn all() {
-    text(b"== scanned\n");
-    columns();
-    others();
+    text(b"== scanned\nC\n");
+    columns::c(Ask::Sought);
+    columns::c(Ask::Windows);
+    columns::c(Ask::Unsound);
+    text(b"D\n");
+    columns::d(Ask::Falling);
+    text(b"far\n");
+    columns::far(Ask::Far);
+    text(b"damaged\n");
+    columns::damaged(Ask::Falling);
 }
