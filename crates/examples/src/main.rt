@@ -2,6 +2,7 @@
 mod columns;
 mod lending;
 mod listed;
+mod listing;
 mod run_only;
 mod scanned;
 mod stored;

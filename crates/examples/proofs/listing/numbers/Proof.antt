@@ -1,15 +1,15 @@
--- `examples::listed::values` reads within its slice, and ends. Assumes nothing.
+-- `examples::listing::numbers` reads within its slice, and ends. Assumes nothing.
 use Prim.Native.Nat.{_-_, _≤_}
 use lib.ListN.{length}
 use borrow.Author.Needs.{needs}
-use Rattle.examples.proofs.listed.values.Statement.{statement}
-use Rattle.examples.proofs.listed.values.Tie as tie
+use Rattle.examples.proofs.listing.numbers.Statement.{statement}
+use Rattle.examples.proofs.listing.numbers.Tie as tie
 
 abbrev Inv-loop : tie.InvT-loop
-Inv-loop out i₀ t3 i = i ≤ length out
+Inv-loop counts i₀ t3 i = i ≤ length counts
 
 abbrev μ-loop : tie.MeasureT-loop
-μ-loop out i₀ t3 i = length out - i
+μ-loop counts i₀ t3 i = length counts - i
 
 loop-holds : tie.Need-loop-holds Inv-loop μ-loop
 loop-holds c = search needs
@@ -20,14 +20,14 @@ slice-aggregate-text c = search needs
 text-requires : tie.Need-text-requires Inv-loop μ-loop
 text-requires c κs = search needs
 
-mul-signed : tie.Need-mul-signed Inv-loop μ-loop
-mul-signed c = search needs
+mul-unsigned : tie.Need-mul-unsigned Inv-loop μ-loop
+mul-unsigned c = search needs
 
-shared-slice-copy-out-signed : tie.Need-shared-slice-copy-out-signed Inv-loop μ-loop
-shared-slice-copy-out-signed c = search needs
+shared-slice-read-unsigned : tie.Need-shared-slice-read-unsigned Inv-loop μ-loop
+shared-slice-read-unsigned c = search needs
 
-signed-requires : tie.Need-signed-requires Inv-loop μ-loop
-signed-requires c κs = search needs
+unsigned-requires : tie.Need-unsigned-requires Inv-loop μ-loop
+unsigned-requires c κs = search needs
 
 add-i : tie.Need-add-i Inv-loop μ-loop
 add-i c = search needs
@@ -41,8 +41,8 @@ loop-again c = search needs
 returns : tie.Need-returns Inv-loop μ-loop
 returns c = search needs
 
-pub values-spec : {M : Type 1} → statement M
-values-spec =
+pub numbers-spec : {M : Type 1} → statement M
+numbers-spec =
     tie.close
     (tie.spec
     Inv-loop
@@ -50,9 +50,9 @@ values-spec =
     loop-holds
     slice-aggregate-text
     text-requires
-    mul-signed
-    shared-slice-copy-out-signed
-    signed-requires
+    mul-unsigned
+    shared-slice-read-unsigned
+    unsigned-requires
     add-i
     loop-less
     loop-again
