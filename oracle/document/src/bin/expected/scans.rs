@@ -78,14 +78,14 @@ fn line(call: &Call, said: &Said, scan: &Scan) -> String {
         State::At(i) => writeln!(after, "{i}").unwrap(),
         State::Ended => after += "ended\n",
     }
-    let said = (told(said), said);
-    match (call, said) {
-        (Call::Set(_), _) => String::new(),
-        (Call::New, (refused, Said::Refused(_))) => format!("new: {refused}\n"),
-        (Call::New, _) => format!("new{after}"),
-        (Call::Current, (said, _)) => format!("current {said}, "),
-        (Call::Pos, (said, _)) => format!("pos {said}\n"),
-        (Call::Narrow(start, end), (said, _)) => format!("narrow {start}..{end}: {said}{after}"),
-        (call, (said, _)) => format!("{call}: {said}{after}"),
+    let answer = told(said);
+    match call {
+        Call::Set(_) => String::new(),
+        Call::New if matches!(said, Said::Refused(_)) => format!("new: {answer}\n"),
+        Call::New => format!("new{after}"),
+        Call::Current => format!("current {answer}, "),
+        Call::Pos => format!("pos {answer}\n"),
+        Call::Narrow(start, end) => format!("narrow {start}..{end}: {answer}{after}"),
+        call => format!("{call}: {answer}{after}"),
     }
 }
