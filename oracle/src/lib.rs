@@ -1,5 +1,5 @@
 //! The Rust as the judge. Three answer the same calls: the Rust's own text, unchanged (`rust`; build.rs takes it from outside this repository), a model
-//! of document 01 (`model`), and the library as it is shipped (`port`, a feature). README.md of this folder says how to run it.
+//! of document 01 (`model`, of the package `document`), and the library as it is shipped (`port`, a feature). README.md of this folder says how to run it.
 
 /// In place of the crate's forwarding macro: makes a macro that calls the same method on whatever variant there is. The text's own list of variants
 /// and its own calls go in; a call reaches the variant's method and nothing else.
@@ -40,11 +40,10 @@ pub(crate) mod management {
 #[cfg(rust_text)]
 include!(concat!(env!("OUT_DIR"), "/tree.rs"));
 
-pub mod calls;
+pub use document::{calls, corpus, model};
+
 pub mod compare;
-pub mod corpus;
 pub mod exhaustive;
-pub mod model;
 #[cfg(feature = "port")]
 pub mod port;
 #[cfg(not(feature = "port"))]

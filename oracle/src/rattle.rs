@@ -8,15 +8,45 @@ use std::fmt::Write;
 const IN_A_FILE: usize = 4;
 const CALLS: usize = 12;
 
-/// The files of the sample: their names and texts, `stdout` last; and the number of calls.
-pub fn sample(cases: usize, seed: u64, made_by: &str) -> (Vec<(String, String)>, usize) {
+/// What a sample has to show: every kind of call, lists of every length, and every state of a filter.
+const CALLED: [&str; 12] = [
+    "new", "next", "seek", "narrow", "reset", "current", "pos", "fnew", "fnext", "fseek", "fcurrent", "freset",
+];
+const LISTED: [&str; 13] =
+    ["b0", "b1", "b2", "v0", "v1", "v2", "i0", "i1", "i2", "inclusive", "exclusive", "named", "named_out"];
+const WRITTEN: [&str; 6] = [" before", " within free", " within up to ", " within below ", " after", " ended"];
+
+/// A sample: its files by name, `stdout` last; its seed; how often each kind of call is in it.
+pub struct Sample {
+    pub files: Vec<(String, String)>,
+    pub seed: u64,
+    pub calls: Vec<(&'static str, usize)>,
+}
+
+/// The sample of the first seed from `seed` on that shows all that it has to.
+pub fn showing(cases: usize, seed: u64, made_by: impl Fn(u64) -> String) -> Sample {
+    let called = |code: &str, name: &str| code.matches(&format!(" {name}(")).count();
+    for seed in seed.. {
+        let files = sample(cases, seed, &made_by(seed));
+        let (stdout, code) = files.split_last().expect("stdout is there");
+        let code: String = code[1..].iter().map(|(_, text)| text.as_str()).collect();
+        let listed = LISTED.iter().all(|name| code.contains(&format!("{name}(")));
+        let calls: Vec<_> = CALLED.iter().map(|&name| (name, called(&code, name))).collect();
+        if listed && calls.iter().all(|(_, n)| *n > 0) && WRITTEN.iter().all(|words| stdout.1.contains(words)) {
+            return Sample { files, seed, calls };
+        }
+    }
+    unreachable!("seeds do not end")
+}
+
+/// The files of a seed's sample: their names and texts, `stdout` last.
+fn sample(cases: usize, seed: u64, made_by: &str) -> Vec<(String, String)> {
     let mut d = Dice(seed);
     let mut played = Vec::new();
     while played.len() < cases {
         let kind = ["scan", "filter"][played.len() % 2];
         played.extend(case(&mut d, kind));
     }
-    let count = played.iter().map(|(_, calls, _)| calls.len()).sum();
     let head = |what: &str| format!("// {what} Made by `{made_by}`; not written by hand.\n");
     let mut files = Vec::new();
     let mut main = head("A fixed sample of the Rust's answers, played again: what this writes must be what the Rust answered.");
@@ -38,13 +68,15 @@ pub fn sample(cases: usize, seed: u64, made_by: &str) -> (Vec<(String, String)>,
             calls.iter().enumerate().for_each(|(i, c)| writeln!(code, "    {};", spelt(c, &calls[i + 1..])).unwrap());
             code.push_str("}\n");
             let (v, e, s) = (plain(&runs.starts), plain(&runs.ends), plain(&runs.steps));
-            writeln!(all, "    case_{number}(&[{v}], &[{e}], &[{s}]);").unwrap();
+            // A function that lends few arrays is proved quicker than one that lends many.
+            writeln!(code, "\nfn lent_{number}() {{\n    case_{number}(&[{v}], &[{e}], &[{s}]);\n}}").unwrap();
+            writeln!(all, "    lent_{number}();").unwrap();
             writeln!(stdout, "case {number}\n{answers}").unwrap();
         }
         files.push((format!("src/cases_{}.rt", n + 1), format!("{code}{all}}}\n")));
     }
     files.push(("stdout".to_string(), stdout.replace("\n\n", "\n")));
-    (files, count)
+    files
 }
 
 /// A column and calls that are accepted and do not overflow, with the lines that the Rust's answers make; none if too few calls are left.

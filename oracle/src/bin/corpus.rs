@@ -1,7 +1,8 @@
 //! `corpus FILE [--cases N] [--seed S]`: writes cases of every kind, each answer by the model, and `both` where the Rust gave the same to every call
 //! that is not refused. A difference ends it.
 //!
-//! `corpus --rattle DIR [--cases N] [--seed S]`: writes a sample of the Rust's answers as the Rattle program DIR (crates/replayed).
+//! `corpus --rattle DIR [--cases N] [--seed S]`: writes a sample of the Rust's answers as the Rattle program DIR (crates/replayed), by the
+//! first seed from S on whose sample has every kind of call.
 use oracle::calls::*;
 use oracle::compare::{self, Bench, Tally, alone, by_hand, sequence};
 use oracle::random::{self, Dice};
@@ -48,13 +49,14 @@ fn main() {
 #[cfg(rust_text)]
 fn as_rattle(folder: &str, cases: u64, seed: u64) {
     compare::quiet_panics();
-    let made_by = format!("corpus --rattle crates/replayed --cases {cases} --seed {seed}");
-    let (files, calls) = oracle::rattle::sample(cases as usize, seed, &made_by);
-    for (name, text) in files {
+    let made_by = |seed| format!("corpus --rattle crates/replayed --cases {cases} --seed {seed}");
+    let sample = oracle::rattle::showing(cases as usize, seed, made_by);
+    for (name, text) in sample.files {
         let path = std::path::Path::new(folder).join(name);
         std::fs::write(&path, text).unwrap_or_else(|e| panic!("{}: {e}", path.display()));
     }
-    println!("{cases} cases, {calls} calls");
+    let kinds: Vec<_> = sample.calls.iter().map(|(name, n)| format!("{n} {name}")).collect();
+    println!("seed {}: {cases} cases; {}", sample.seed, kinds.join(", "));
 }
 
 #[cfg(not(rust_text))]

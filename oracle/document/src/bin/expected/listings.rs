@@ -1,0 +1,62 @@
+//! The module `listed`: batch listings, with the whole of both outputs, so that what a call leaves alone shows too.
+use crate::{arrays, ask, c, d, far, told};
+use document::calls::{Bound, Call, Listing, Runs, Said};
+use document::corpus;
+
+/// What the places of the outputs hold before.
+const OUT: i64 = -7;
+const COUNT: u64 = 99;
+
+pub fn listed() -> String {
+    let mut out = String::from("== listed\nC\n");
+    asked(&mut out, &c(), &["0 9 - - 16 8", "0 9 x10 i40 16 8", "0,3,3,8 9,8,8,2 i25,x25 i140 16 8", "0,0 9,9 - i15,x15 16 8"]);
+    asked(&mut out, &c(), &["4,18446744073709551615,100,6 5,4,9,9 i31 x240 16 8", "- - x0 - 16 8"]);
+    out += "D\n";
+    asked(&mut out, &d(), &["1,1,2,0 5,5,4,1 - - 16 8", "1,1,2 5,4,4 x5 x8 16 8", "1,0 5,2 - - 16 8", "0,1 5,6 - - 16 8"]);
+    out += "room\n";
+    asked(&mut out, &c(), &["0,1 9,8 i20 i40 10 2", "0,1 9,8 i20 i40 9 2"]);
+    asked(&mut out, &d(), &["1 5 - - 16 1", "1,2 5,5 - - 16 1", "0,0 6,5 - - 16 1", "0,0 5,5 - - 16 1"]);
+    out += "too many\n";
+    asked(&mut out, &c(), &["0,0 9 - - 16 8"]);
+    too_many(&mut out);
+    out += "far\n";
+    asked(&mut out, &far(), &["0,1 5,4 i-9223372036854775808 i9223372036854775807 16 8"]);
+    asked(&mut out, &far(), &["0,1 5,4 x-9223372036854775808 x9223372036854775807 16 8"]);
+    out += "damaged\n";
+    asked(&mut out, &arrays(&[10, 6], &[2, 2], &[-5, 1]), &["0 99 - - 16 8"]);
+    out
+}
+
+/// Over 16 bounds and over 256 windows, and just as many.
+fn too_many(out: &mut String) {
+    for n in [17, 16] {
+        let lower = vec![Bound { value: 0, exclusive: false }; n];
+        line(out, &c(), Listing { from: vec![0], to: vec![10], lower, upper: vec![], room: 16, counts: 8 });
+    }
+    for (n, end, counts) in [(256, 0, 256), (257, 10, 1)] {
+        line(out, &c(), Listing { from: vec![7; n], to: vec![end; n], room: 1, counts, ..Listing::default() });
+    }
+}
+
+/// Listings in the words of a corpus: starts, ends, lower and upper bounds, room, places for counts.
+fn asked(out: &mut String, runs: &Runs, listings: &[&str]) {
+    for words in listings {
+        let Ok(Call::List(listing)) = corpus::call(&format!("list {words}")) else { panic!("'{words}' is no listing") };
+        line(out, runs, listing);
+    }
+}
+
+fn line(out: &mut String, runs: &Runs, listing: Listing) {
+    let (mut values, mut numbers) = (vec![OUT; listing.room], vec![COUNT; listing.counts]);
+    let answer = match ask(runs, Call::List(listing)) {
+        Said::Listed { sum, counts, out } => {
+            values[..out.len()].copy_from_slice(&out);
+            numbers[..counts.len()].copy_from_slice(&counts);
+            sum.to_string()
+        }
+        other => told(&other),
+    };
+    let values: String = values.iter().map(|v| format!(" {v}")).collect();
+    let numbers: String = numbers.iter().map(|n| format!(" {n}")).collect();
+    *out += &format!("{answer} |{values} |{numbers}\n");
+}
