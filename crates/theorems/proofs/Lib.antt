@@ -20,3 +20,5 @@ pub mod Audit
 pub mod Table
 pub mod Parts
 pub mod Batch
+pub mod Refused
+pub mod Reset

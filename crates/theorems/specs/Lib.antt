@@ -4,3 +4,5 @@ pub mod Runs
 pub mod Audit
 pub mod Batch
 pub mod Table
+pub mod Answered
+pub mod Resets
