@@ -22,3 +22,4 @@ pub mod Parts
 pub mod Batch
 pub mod Refused
 pub mod Reset
+pub mod Each
