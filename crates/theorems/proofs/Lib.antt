@@ -23,3 +23,4 @@ pub mod Batch
 pub mod Refused
 pub mod Reset
 pub mod Each
+pub mod EmptyColumn
