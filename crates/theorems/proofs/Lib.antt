@@ -24,3 +24,4 @@ pub mod Refused
 pub mod Reset
 pub mod Each
 pub mod EmptyColumn
+pub mod FilterStates
