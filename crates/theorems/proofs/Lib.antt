@@ -25,3 +25,5 @@ pub mod Reset
 pub mod Each
 pub mod EmptyColumn
 pub mod FilterStates
+pub mod FilterComments
+pub mod StepComments
