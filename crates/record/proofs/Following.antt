@@ -1,24 +1,24 @@
 -- "what follows the record is not read", of the call: what `read` promises of some bytes is what it promises of them and any that follow. Assumes nothing.
-use Prim.Native.Nat.{ℕ, _+_, _≤_}
-use mathlib.Core.Path.{_≡_, sym, ap, _∙_}
+use Prim.Native.Nat.{ℕ}
+use mathlib.Core.Path.{_≡_, ap, _∙_}
 use mathlib.Core.List.{List, _++_}
 use lib.ListN.{length}
 use lib.IntN.{ℤ}
 use Rattle.meaning.specs.Column.{Column}
 use Rattle.meaning.specs.Outputs.{after}
-use Rattle.codec.specs.Record.{lengthIn}
+use Rattle.codec.specs.Following.{There}
 use Rattle.codec.proofs.Following.{column-same, read-same}
 use Rattle.record.specs.declared.ReadRecord.{ReadRecord}
 use Rattle.record.specs.Says.{saysRead}
 use Rattle.record.proofs.Unique.{ReadMeets, read-one}
 
 -- bytes b that hold a whole record by what its length says, any bytes after them, and arrays to read into
-module _ (b rest : List ℕ) (head : 4 ≤ length b) (whole : 4 + lengthIn b ≤ length b) (starts : List ℤ) (ends : List ℕ) (steps : List ℤ) where
+module _ (b rest : List ℕ) (there : There b) (starts : List ℤ) (ends : List ℕ) (steps : List ℤ) where
   pub reads-alike : (r : ReadRecord) (starts′ : List ℤ) (ends′ : List ℕ) (steps′ : List ℤ)
       → ReadMeets (b ++ rest) starts ends steps r starts′ ends′ steps′ → ReadMeets b starts ends steps r starts′ ends′ steps′
   reads-alike r starts′ ends′ steps′ m =
-      let same = column-same b rest head whole in record {
-        said = m .said ∙ read-same b rest head whole (length starts) (length ends) (length steps);
+      let same = column-same b rest there in record {
+        said = m .said ∙ read-same b rest there (length starts) (length ends) (length steps);
         starts-are = m .starts-are ∙ ap (λ (c : Column). after (saysRead r) (c .starts) starts) same;
         ends-are = m .ends-are ∙ ap (λ (c : Column). after (saysRead r) (c .ends) ends) same;
         steps-are = m .steps-are ∙ ap (λ (c : Column). after (saysRead r) (c .steps) steps) same;

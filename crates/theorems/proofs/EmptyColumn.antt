@@ -2,7 +2,7 @@
 use Prim.Native.Nat.{ℕ, zero, _-_, _≤_, _<_}
 use mathlib.Core.Path.{_≡_, refl, sym, ap, _∙_}
 use mathlib.Core.Bool.{true, false, not}
-use mathlib.Core.List.{List, [], _∷_, map}
+use mathlib.Core.List.{List, [], _∷_}
 use mathlib.Core.Option.{none}
 use native.Mathlib.Omega.{arith}
 use borrow.Author.Tests.{lt-ltb, le-ltb, le-leb, ltb-false, eq-eqb}
@@ -12,8 +12,8 @@ use lib.IntN.{ℤ}
 use Rattle.ranges.specs.Ranges.{allFor, firstFor, every}
 use Rattle.ranges.proofs.Bools.{and-false, or-left, same-after}
 use Rattle.meaning.specs.Refusals.{fine, Gives, Number, tried}
-use Rattle.meaning.specs.Sequence.{Sequence, Source, rises, firstNotBelow, elementsFor}
-use Rattle.meaning.specs.Column.{Column, endBefore, runOf, shapeOk, endsOk, reachOk, sound, sourceOf}
+use Rattle.meaning.specs.Sequence.{Sequence, rises, firstNotBelow, elementsFor}
+use Rattle.meaning.specs.Column.{endBefore, runOf, shapeOk, endsOk, reachOk, sound}
 use Rattle.meaning.specs.Calls.{checkOf, lenOf, isEmptyOf, placeOf, getOf}
 use Rattle.loftsplice.specs.declared.scan.State.{State}
 use Rattle.loftsplice.specs.declared.scan.State.the-variants.{Fresh, At, Ended}
@@ -26,20 +26,15 @@ use Rattle.filter_interval.specs.declared.FilterState.the-variants.{Before, Wit
 use Rattle.filter_interval.specs.declared.Filter.{Filter}
 use Rattle.loftsplice.specs.Scan.{Outcome, fresh, nextFrom, seekFrom, elementIn, indexIn, outside, badScan, newOf, nextOf, seekOf, narrowOf, resetOf, currentOf, posOf}
 use Rattle.bounds.specs.Bounds.{isExclusive, greatest, least, bounds}
-use Rattle.filter_interval.specs.Filter.{Move, Next, Seek, Call, Sifting, raised, lowerOf, upperOf, past, arrive, moveScan, settle, stepFrom, tooMany, unread, callOf, currentIn, filterCurrentOf}
+use Rattle.filter_interval.specs.Filter.{Move, Next, Seek, Call, raised, lowerOf, upperOf, past, arrive, moveScan, settle, stepFrom, tooMany, unread, callOf, currentIn, filterCurrentOf}
 use Rattle.loftsplice.specs.Listing.{Span, windows, those, valuesIn, valuesOf, countsOf, listOf}
 use Rattle.theorems.specs.Exact.{soundSource}
+use Rattle.theorems.specs.Empty.{empty, nowhere, spent, Barren, zeros}
 use Rattle.theorems.proofs.ColumnCalls.{sound-source}
 use Rattle.theorems.proofs.ScanCalls.{next-accepts, next-does, seek-accepts, seek-does, narrow-refuses-5, narrow-accepts, narrow-does, reset-accepts, reset-does, current-accepts, current-does, pos-accepts, pos-does}
 use Rattle.theorems.proofs.FilterCalls.{call-accepts, call-does, filter-current-accepts, filter-current-does}
 use Rattle.theorems.proofs.Columns.{short-rises}
-use Rattle.theorems.proofs.Moves.{over, to-end, in-place, below-end}
-
-abbrev pub empty : Column
-empty = record { starts = []; ends = []; steps = [] }
-
-abbrev pub nowhere : Source
-nowhere = sourceOf empty
+use Rattle.theorems.proofs.Moves.{to-end, in-place, below-end}
 
 -- ---- the column's calls
 
@@ -98,13 +93,13 @@ module _ (s : Scan) (good : badScan (nowhere .sequence) s ≡ false) where
   at-none : {P : Type 0} (i : ℕ) → outside s (At i) ≡ false → P
   at-none i h = absurd (omega (arith, below-end q s i h, over-all))
 
-  next-over : (t : State) → outside s t ≡ false → nextFrom q s t ≡ over s
+  next-over : (t : State) → outside s t ≡ false → nextFrom q s t ≡ spent s
   unfolding nextFrom
   next-over Fresh h = to-end q s (s .start) (omega (arith, over-all))
   next-over (At i) h = at-none i h
   next-over Ended h = refl
 
-  seek-over : (x : ℤ) (t : State) → outside s t ≡ false → seekFrom q x s t ≡ over s
+  seek-over : (x : ℤ) (t : State) → outside s t ≡ false → seekFrom q x s t ≡ spent s
   unfolding seekFrom
   seek-over x Fresh h = to-end q s (firstNotBelow q x (s .start) (s .end)) (omega (arith, over-all))
   seek-over x (At i) h = at-none i h
@@ -114,10 +109,10 @@ module _ (s : Scan) (good : badScan (nowhere .sequence) s ≡ false) where
   rising = short-rises q (s .start) (s .end) (omega (arith, over-all))
 
   -- next and seek end it and give nothing
-  pub empty-next : nextOf nowhere s ≡ over s
+  pub empty-next : nextOf nowhere s ≡ spent s
   empty-next = next-does nowhere s (next-accepts nowhere s .1 (is-source, good)) ∙ next-over (s .state) (in-place q s good)
 
-  pub empty-seek : (x : ℤ) → seekOf nowhere x s ≡ over s
+  pub empty-seek : (x : ℤ) → seekOf nowhere x s ≡ spent s
   empty-seek x = seek-does nowhere s x (seek-accepts nowhere s x .1 (is-source, good, rising)) ∙ seek-over x (s .state) (in-place q s good)
 
   no-element : (t : State) → outside s t ≡ false → elementIn q t ≡ none
@@ -157,23 +152,19 @@ module _ (s : Scan) (good : badScan (nowhere .sequence) s ≡ false) where
   move-over Next = ap (λ (m : Outcome). m .said) (next-over (s .state) (in-place q s good))
   move-over (Seek x) = ap (λ (m : Outcome). m .said) (seek-over x (s .state) (in-place q s good))
 
--- it gives nothing, and is After
-abbrev Nothing : Sifting → Type 0
-Nothing m = (m .said ≡ Gives none) × (m .filter .state ≡ After)
-
-settle-none : (f : Filter) (up : Limit) (m : Outcome) → m .said ≡ Gives none → Nothing (settle f up m)
+settle-none : (f : Filter) (up : Limit) (m : Outcome) → m .said ≡ Gives none → Barren (settle f up m)
 unfolding settle
 settle-none f up m h = rw h (refl, refl)
 
 module _ (f : Filter) (good : badScan (nowhere .sequence) (f .scan) ≡ false) where
-  step-none : (k : Call) (t : FilterState) → f .state ≡ t → Nothing (stepFrom (nowhere .sequence) k f t)
+  step-none : (k : Call) (t : FilterState) → f .state ≡ t → Barren (stepFrom (nowhere .sequence) k f t)
   unfolding stepFrom
   step-none k Before h = settle-none f (upperOf f k) _ (arrive-over (f .scan) good (raised (k .move) (lowerOf f k)))
   step-none k (Within up) h = settle-none f up _ (move-over (f .scan) good (k .move))
   step-none k After h = (refl, h)
 
   -- next and seek that 8 and 9 pass
-  pub empty-call : (k : Call) → tooMany k ≡ false → unread k (f .state) ≡ false → Nothing (callOf nowhere k f)
+  pub empty-call : (k : Call) → tooMany k ≡ false → unread k (f .state) ≡ false → Barren (callOf nowhere k f)
   empty-call k few read =
       let ok = call-accepts nowhere f k .1 (is-source, good, few, rising (f .scan) good, read) in
       rw (call-does nowhere f k ok) (step-none k (f .state) refl)
@@ -187,10 +178,6 @@ module _ (f : Filter) (good : badScan (nowhere .sequence) (f .scan) ≡ false) w
   empty-filter-current = filter-current-does nowhere f (filter-current-accepts nowhere f .1 (is-source, good)) ∙ ap Gives (none-in (f .state))
 
 -- ---- the listing: of no windows, and of any that end at 0
-
--- as many ends, or counts, of 0
-abbrev pub zeros : List ℕ → List ℕ
-zeros ss = map (λ (s : ℕ). zero) ss
 
 module _ (low up : Limit) where
   no-values : (w : ℕ) → valuesIn (nowhere .sequence) low up (record { start = w; end = 0 }) ≡ []

@@ -32,11 +32,12 @@ use Rattle.filter_interval.specs.Filter.{Move, Call, lowerOf, upperOf, newFilte
 use Rattle.theorems.specs.Exact.{accepted}
 use Rattle.theorems.specs.Demand3.{answersOf, answers, moves, allLower, allUpper, meetsAll, tied, earliest, answerAt, counts, expectedFrom}
 use Rattle.theorems.specs.Runs.{letThrough}
+use Rattle.theorems.specs.Comments.{Inside, Outside, satisfiesLower, satisfiesUpper}
 use Rattle.theorems.proofs.Bounds.{lower-all, upper-all, upper-untied, folded-twice}
 use Rattle.theorems.proofs.Expected.{meets-there}
 use Rattle.theorems.proofs.Folded.{untied}
 use Rattle.theorems.proofs.Demand3.{answers-at-any-bounds}
-use Rattle.theorems.proofs.FilterStates.{Inside, Outside, call-comes-to}
+use Rattle.theorems.proofs.FilterStates.{call-comes-to}
 
 -- ---- a bound
 
@@ -78,12 +79,12 @@ lesser-one a b = either (less b a) (λ t. inr (rw t)) (λ t. inl (rw t))
 
 -- "Aggregate all provided lower bounds into one (equivalent) lower bound.": it is one of them, and is met exactly if all are
 pub aggregate-lower : (b : Bound) (bs : List Bound)
-    → (c : Bound) × (greatest (b ∷ bs) ≡ To c) × In c (b ∷ bs) × ((v : ℤ) → meetsLower v c ≡ every (meetsLower v) (b ∷ bs))
+    → (c : Bound) × (greatest (b ∷ bs) ≡ To c) × In c (b ∷ bs) × ((v : ℤ) → meetsLower v c ≡ satisfiesLower (b ∷ bs) v)
 aggregate-lower b bs = (fold greater b bs, refl, fold-in greater greater-one b bs, λ v. lower-all (b ∷ bs) v)
 
 -- The same sentence stands above the upper bounds, "(equivalent) lower bound" too: it is the least of them, and met exactly if all are but for a tie.
 pub aggregate-upper : (b : Bound) (bs : List Bound)
-    → (c : Bound) × (least (b ∷ bs) ≡ To c) × In c (b ∷ bs) × (tied (b ∷ bs) ≡ false → (v : ℤ) → meetsUpper v c ≡ every (meetsUpper v) (b ∷ bs))
+    → (c : Bound) × (least (b ∷ bs) ≡ To c) × In c (b ∷ bs) × (tied (b ∷ bs) ≡ false → (v : ℤ) → meetsUpper v c ≡ satisfiesUpper (b ∷ bs) v)
 aggregate-upper b bs = (fold lesser b bs, refl, fold-in lesser lesser-one b bs, λ t v. upper-untied (b ∷ bs) v t)
 
 -- "Return the current lower bound.", "Return the current upper bound.": of the constants and of the variables as read
@@ -119,31 +120,25 @@ module _ (p : Source) (start end : ℕ) (lows ups : List Bound) (k : Call) (ks :
       given-meets (p .sequence) end (letThrough (allLower lows k) (allUpper ups k)) (counts (allLower lows k) (k .move) ∷ moves ks) start start v
       (rw (answers-at-any-bounds p start end lows ups k ks all-accepted) at given)
 
-  lower-met : every (meetsLower v) (allLower lows k) ≡ true
-  unfolding letThrough
-  lower-met = and-left (every (meetsLower v) (allLower lows k)) _ only-within
-
   -- "The current value has to satisfy all the lower bounds in this list": the variables as read at the first call, and the constants
-  pub all-lower-met : (b : Bound) → In b (allLower lows k) → meetsLower v b ≡ true
-  all-lower-met b i = every-at (meetsLower v) (allLower lows k) b lower-met i
+  pub all-lower-met : satisfiesLower (allLower lows k) v ≡ true
+  unfolding letThrough
+  all-lower-met = and-left (every (meetsLower v) (allLower lows k)) _ only-within
 
   -- "The current value has to satisfy this constant lower bound."
   pub constant-lower-met : above (greatest lows) v ≡ true
-  constant-lower-met = lower-all lows v ∙ at-every (meetsLower v) lows (λ b i. all-lower-met b (in-front b lows _ i))
+  constant-lower-met = lower-all lows v ∙ at-every (meetsLower v) lows (λ b i. every-at (meetsLower v) (allLower lows k) b all-lower-met (in-front b lows _ i))
 
   -- The same of upper bounds, where no least upper value is given both ways; where one is, it is let through: Bounds `upper-all`.
   module _ (no-tie : tied (allUpper ups k) ≡ false) where
-    upper-met : every (meetsUpper v) (allUpper ups k) ≡ true
-    unfolding meetsAll
-    upper-met = and-right (every (meetsLower v) (allLower lows k)) _ (ap (λ (t : ℤ → Bool). t v) (sym (untied (allLower lows k) (allUpper ups k) no-tie)) ∙ only-within)
-
     -- "The current value has to satisfy all the upper bounds in this list"
-    pub all-upper-met : (b : Bound) → In b (allUpper ups k) → meetsUpper v b ≡ true
-    all-upper-met b i = every-at (meetsUpper v) (allUpper ups k) b upper-met i
+    pub all-upper-met : satisfiesUpper (allUpper ups k) v ≡ true
+    unfolding meetsAll
+    all-upper-met = and-right (every (meetsLower v) (allLower lows k)) _ (ap (λ (t : ℤ → Bool). t v) (sym (untied (allLower lows k) (allUpper ups k) no-tie)) ∙ only-within)
 
     -- "The current value has to satisfy this constant upper bound."
     pub constant-upper-met : within (least ups) v ≡ true
-    constant-upper-met = upper-all ups v ∙ rw (at-every (meetsUpper v) ups (λ b i. all-upper-met b (in-front b ups _ i)))
+    constant-upper-met = upper-all ups v ∙ rw (at-every (meetsUpper v) ups (λ b i. every-at (meetsUpper v) (allUpper ups k) b all-upper-met (in-front b ups _ i)))
 
 -- "[ColumnScanFilterInterval]'s value is lower than the lower bound of the interval" of a filter that is Before: not after reset. Where a first call gives v, reset
 -- leaves the filter Before and its scan on v, which is not lower than any lower bound.
@@ -154,7 +149,7 @@ module _ (p : Source) (start end : ℕ) (lows ups : List Bound) (k : Call) (v : 
   pub before-not-lower : callOf p k (newFilter (fresh start end) lows ups) .said ≡ Gives (some v)
       → (filterResetOf called .state ≡ Before) × (elementIn (p .sequence) (filterResetOf called .scan .state) ≡ some v) × (above (greatest (allLower lows k)) v ≡ true)
   unfolding answersOf every
-  before-not-lower h = (refl, stands, lower-all (allLower lows k) v ∙ lower-met p start end lows ups k [] (rw h) v (inl (sym h)))
+  before-not-lower h = (refl, stands, lower-all (allLower lows k) v ∙ all-lower-met p start end lows ups k [] (rw h) v (inl (sym h)))
     where
       f : Filter
       f = newFilter (fresh start end) lows ups

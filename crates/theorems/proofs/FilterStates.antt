@@ -2,7 +2,7 @@
 -- Assumes nothing.
 use Prim.Native.Nat.{ℕ}
 use mathlib.Core.Path.{_≡_, refl, sym, ap, _∙_}
-use mathlib.Core.Bool.{true, false, not, _&&_}
+use mathlib.Core.Bool.{true, false, not, _&&_, false≢true}
 use mathlib.Core.Option.{Option, some, none}
 use mathlib.Core.Logic.{_↔_, _⊎_, inl, inr}
 use native.Mathlib.Omega.{arith}
@@ -10,7 +10,7 @@ use borrow.Author.Tests.{not-false}
 use lib.Dec.{ltb}
 use lib.IntN.{ℤ}
 use lib.Signed.{ltZ}
-use Rattle.ranges.proofs.Bools.{either, clash}
+use Rattle.ranges.proofs.Bools.{either}
 use Rattle.ranges.proofs.Order.{lt-self, lt-same, lt-not}
 use Rattle.meaning.specs.Refusals.{Said, Gives, Number}
 use Rattle.meaning.specs.Sequence.{Sequence, Source}
@@ -32,6 +32,7 @@ use Rattle.bounds.specs.Bounds.{isExclusive, meetsUpper, within}
 use Rattle.filter_interval.specs.Filter.{Move, Next, Seek, Call, Sifting, lowerOf, upperOf, raised, past, arrive, moveScan, accepts, settle, stepFrom, callOf, currentIn, filterCurrentOf, filterResetOf}
 use Rattle.filter_interval.specs.Inner.{upFor}
 use Rattle.theorems.specs.Exact.{accepted, soundSource}
+use Rattle.theorems.specs.Comments.{Inside, passed, Outside}
 use Rattle.theorems.proofs.FilterCalls.{call-accepts, call-does, call-keeps, filter-current-accepts, filter-current-does}
 use Rattle.theorems.proofs.Moves.{Restricted, in-place, restricted-bad}
 use Rattle.theorems.proofs.AcceptedRuns.{step-begun}
@@ -78,20 +79,6 @@ module _ (q : Sequence) where
 
 -- ---- what a call comes to
 
--- Within: "[ColumnScanFilterInterval]'s value is within the interval, in particular not passed the upper bound stored here"
-pub record Inside (q : Sequence) (up : Limit) (m : Sifting) : Type 0 where
-  pub value : ℤ
-  pub state-is : m .filter .state ≡ Within up
-  pub stands-on : elementIn q (m .filter .scan .state) ≡ some value
-  pub gives : m .said ≡ Gives (some value)
-  pub met : within up value ≡ true
-
--- After: "[ColumnScanFilterInterval]'s value is greater than the upper bound of the interval". So it is, or the scan stands on no element; the filter has none.
-pub record Outside (q : Sequence) (up : Limit) (m : Sifting) : Type 0 where
-  pub state-is : m .filter .state ≡ After
-  pub gives : m .said ≡ Gives none
-  pub past-or-over : ((v : ℤ) × (elementIn q (m .filter .scan .state) ≡ some v) × (within up v ≡ false)) ⊎ (elementIn q (m .filter .scan .state) ≡ none)
-
 -- "greater than the upper bound": above its value, or at it where the bound is exclusive
 pub past-upper : (v : ℤ) (b : Bound) → (meetsUpper v b ≡ false) ↔ ((ltZ (b .value) v ≡ true) ⊎ ((v ≡ b .value) × (b .boundary ≡ Exclusive)))
 unfolding meetsUpper
@@ -116,12 +103,12 @@ module _ (q : Sequence) (f : Filter) (up : Limit) where
   settled-by : (s : Scan) (a : Said (Option ℤ)) → a ≡ Gives (elementIn q (s .state))
       → Inside q up (settle f up (record { scan = s; said = a })) ⊎ Outside q up (settle f up (record { scan = s; said = a }))
   unfolding settle
-  settled-by s (Gives none) e = let is : elementIn q (s .state) ≡ none = cc in inr (record { state-is = refl; gives = refl; past-or-over = inr is })
+  settled-by s (Gives none) e = let is : elementIn q (s .state) ≡ none = cc in inr (record { state-is = refl; gives = refl; is-passed = rw is })
   settled-by s (Gives (some v)) e =
       let is : elementIn q (s .state) ≡ some v = cc in
       either (within up v)
       (λ t. rw t (inl (record { value = v; state-is = refl; stands-on = is; gives = refl; met = t })))
-      (λ t. rw t (inr (record { state-is = refl; gives = refl; past-or-over = inl (v, is, t) })))
+      (λ t. rw t (inr (record { state-is = refl; gives = refl; is-passed = rw (is, t) })))
   settled-by s (Number n) e = no-number (sym e)
 
   settled : (m : Outcome) → Shows q m → Inside q up (settle f up m) ⊎ Outside q up (settle f up m)
@@ -187,12 +174,11 @@ module _ (p : Source) (f : Filter) (k : Call) (ok : accepted (callOf p k f .said
 
   -- so where no upper bound is in force the scan stands on no element: its value is greater than nothing
   pub after-unbounded : (f .state ≡ After → ⊥) → callOf p k f .filter .state ≡ After → in-force ≡ Free → elementIn q (callOf p k f .filter .scan .state) ≡ none
-  after-unbounded n h free = by (after-value n h .past-or-over)
+  after-unbounded n h free = by (elementIn q (callOf p k f .filter .scan .state)) (rw free at (after-value n h .is-passed))
     where
-      by : ((v : ℤ) × (elementIn q (callOf p k f .filter .scan .state) ≡ some v) × (within in-force v ≡ false)) ⊎ (elementIn q (callOf p k f .filter .scan .state) ≡ none)
-          → elementIn q (callOf p k f .filter .scan .state) ≡ none
-      by (inl w) = clash (ap (λ (up : Limit). within up (w .0)) free) (w .2)
-      by (inr e) = e
+      by : (x : Option ℤ) → passed Free x ≡ true → x ≡ none
+      by none g = refl
+      by (some v) g = absurd (false≢true g)
 
   -- ---- current
 

@@ -21,7 +21,7 @@ use Rattle.filter_interval.specs.Filter.{Move, Seek}
 use Rattle.theorems.specs.Exact.{accepted, soundSource}
 use Rattle.theorems.specs.Runs.{scanAnswers, allowedScan, risingWindow}
 use Rattle.theorems.specs.Audit.{seeks, filled}
-use Rattle.theorems.specs.Answered.{refusedOf, answeredOtherwise}
+use Rattle.theorems.specs.Answered.{refusedOf, sevens, answeredOtherwise}
 use Rattle.theorems.proofs.ScanCalls.{seek-refuses-7, seek-keeps}
 use Rattle.theorems.proofs.ScanRuns.{run-accepted-exactly-if, rising-accepted}
 use Rattle.theorems.proofs.Audit.{column-window}
@@ -83,7 +83,7 @@ module _ (p : Source) (start end : ℕ) where
     unfolding badScan
     refused-7 k = seek-refuses-7 p (fresh start end) k .1 (is-sound, rw inside, falls)
 
-    pub falling-refuses-all : (ks : List ℤ) → seeks p (fresh start end) ks ≡ map (λ k. Number 7) ks
+    pub falling-refuses-all : (ks : List ℤ) → seeks p (fresh start end) ks ≡ sevens ks
     unfolding scanAnswers
     falling-refuses-all [] = refl
     falling-refuses-all (k ∷ ks) =
@@ -93,7 +93,7 @@ module _ (p : Source) (start end : ℕ) where
     unfolding filled
     falling-would-fill-all ks = ap (filled ks) (falling-refuses-all ks) ∙ all ks
       where
-        all : (ks : List ℤ) → filled ks (map (λ k. Number 7) ks) ≡ ks
+        all : (ks : List ℤ) → filled ks (sevens ks) ≡ ks
         all [] = refl
         all (k ∷ ks) = same-after k (all ks)
 

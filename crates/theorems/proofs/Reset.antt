@@ -19,7 +19,7 @@ use Rattle.bounds.specs.Bounds.{greatest, least, bounds}
 use Rattle.filter_interval.specs.Filter.{Call, accepts, settle, stepFrom, arrive, raised, lowerOf, upperOf, moveScan, newFilter, fitOf, callOf, filterResetOf}
 use Rattle.theorems.specs.Exact.{accepted}
 use Rattle.theorems.specs.Table.{FilterAct, ask, again, look, filterAct, sifts}
-use Rattle.theorems.specs.Resets.{filterLeft}
+use Rattle.theorems.specs.Resets.{filterLeft, initial}
 use Rattle.theorems.proofs.FilterCalls.{fit-accepts, fit-does, call-does, call-keeps}
 
 -- ---- no call changes the folded constants
@@ -60,11 +60,11 @@ module _ (p : Source) where
       called = filterLeft p as′ (newFilter s lows ups)
 
       -- "to its initial state (i.e. after calling new)": after any next, seek, reset and current
-      pub reset-after-any-calls : filterResetOf called ≡ newFilter (called .scan) lows ups
+      pub reset-after-any-calls : filterResetOf called ≡ initial called lows ups
       reset-after-any-calls = let h = left-limits as′ (newFilter s lows ups) in rw (h .0, h .1)
 
       -- what is asked after it is answered as by that new filter
-      pub asked-after-reset : (more : List FilterAct) → sifts p (again ∷ more) called ≡ (Gives none ∷ sifts p more (newFilter (called .scan) lows ups))
+      pub asked-after-reset : (more : List FilterAct) → sifts p (again ∷ more) called ≡ (Gives none ∷ sifts p more (initial called lows ups))
       unfolding sifts
       asked-after-reset more = rw reset-after-any-calls
 

@@ -11,20 +11,19 @@ use Rattle.ranges.proofs.Order.{mul-suc}
 use Rattle.keys.specs.Widths.{fitsIn, half16}
 use Rattle.meaning.specs.Column.{Column, stepOf, endBefore, startOf, offset, elementAt, endsOk}
 use Rattle.meaning.specs.Calls.{diffStepOf}
+use Rattle.theorems.specs.Comments.{IsStep, added}
 use Rattle.theorems.proofs.Columns.{InRun, element-in}
 
 -- ---- offset
 
--- "offset self by inc * times"
-pub offset-by : (x inc : ℤ) (times : ℕ) → offset x inc times ≡ x +ℤ inc *ℤ pos times
-offset-by x inc times = refl
-
--- that is: inc is added so many times
-pub offset-none : (x inc : ℤ) → offset x inc 0 ≡ x
-offset-none x inc = ap (λ y. x +ℤ y) (*ℤ-zero inc) ∙ +ℤ-idr x
-
-pub offset-more : (x inc : ℤ) (times : ℕ) → offset x inc (suc times) ≡ offset x inc times +ℤ inc
+offset-more : (x inc : ℤ) (times : ℕ) → offset x inc (suc times) ≡ offset x inc times +ℤ inc
 offset-more x inc times = ap (λ y. x +ℤ y) (mul-suc inc times) ∙ sym (+ℤ-assoc x (inc *ℤ pos times) inc)
+
+-- "offset self by inc * times": inc is added so many times
+pub offset-adds : (x inc : ℤ) (times : ℕ) → offset x inc times ≡ added x inc times
+unfolding added
+offset-adds x inc zero = ap (λ y. x +ℤ y) (*ℤ-zero inc) ∙ +ℤ-idr x
+offset-adds x inc (suc times) = offset-more x inc times ∙ ap (λ y. y +ℤ inc) (offset-adds x inc times)
 
 -- "Increment / Decrement values in run length encoded elements": of two neighbours in a run the second is the first and the run's step
 pub run-steps : (c : Column) → endsOk (c .ends) ≡ true → (i r : ℕ) → InRun c i r → InRun c (suc i) r → elementAt c (suc i) ≡ elementAt c i +ℤ stepOf c r
@@ -37,7 +36,7 @@ run-steps c ok i r h g =
 
 module _ (prev curr : ℤ) where
   -- "Increment / Decrement value by calculating curr - prev": where there is one it is that, and there is one where that is an i16
-  pub step-is-difference : (d : ℤ) → (diffStepOf prev curr ≡ some d) ↔ ((fitsIn half16 (curr -ℤ prev) ≡ true) × (curr -ℤ prev ≡ d))
+  pub step-is-difference : (d : ℤ) → (diffStepOf prev curr ≡ some d) ↔ IsStep prev curr d
   unfolding diffStepOf
   step-is-difference d = (
     λ h. either (fitsIn half16 (curr -ℤ prev))
@@ -48,8 +47,9 @@ module _ (prev curr : ℤ) where
 
   -- one such step on from prev is curr
   pub step-leads : (d : ℤ) → diffStepOf prev curr ≡ some d → offset prev d 1 ≡ curr
+  unfolding added
   step-leads d h =
-      offset-more prev d 0 ∙ ap (λ y. y +ℤ d) (offset-none prev d) ∙ ap (λ y. prev +ℤ y) (sym (step-is-difference d .0 h .1)) ∙ +ℤ-comm prev (curr -ℤ prev) ∙ -ℤ-+ℤ-cancel curr prev
+      offset-adds prev d 1 ∙ ap (λ y. prev +ℤ y) (sym (step-is-difference d .0 h .1)) ∙ +ℤ-comm prev (curr -ℤ prev) ∙ -ℤ-+ℤ-cancel curr prev
 
 -- "Increment value corresponding to 0": the step from a value to itself, which leads nowhere
 pub zero-step : (x : ℤ) → diffStepOf x x ≡ some (pos 0)

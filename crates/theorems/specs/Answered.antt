@@ -2,7 +2,7 @@
 use Prim.Native.Nat.{ℕ, _≤_, _<_}
 use mathlib.Core.Path.{_≡_}
 use mathlib.Core.Bool.{Bool, true, false, cond, not, _&&_}
-use mathlib.Core.List.{List, [], _∷_}
+use mathlib.Core.List.{List, [], _∷_, map}
 use mathlib.Core.Option.{Option, some, none}
 use lib.IntN.{ℤ}
 use lib.Signed.{ltZ}
@@ -19,6 +19,10 @@ unfoldable pub refusedOf : List ℤ → List (Said (Option ℤ)) → List ℤ
 refusedOf [] answers = []
 refusedOf (k ∷ ks) [] = []
 refusedOf (k ∷ ks) (a ∷ answers) = cond (accepted a) (refusedOf ks answers) (k ∷ refusedOf ks answers)
+
+-- each refused 7
+abbrev pub sevens : List ℤ → List (Said (Option ℤ))
+sevens ks = map (λ k. Number 7) ks
 
 -- the numbers that were answered otherwise than with themselves: a refusal is no answer
 unfoldable pub answeredOtherwise : List ℤ → List (Said (Option ℤ)) → List ℤ

@@ -6,3 +6,5 @@ pub mod Batch
 pub mod Table
 pub mod Answered
 pub mod Resets
+pub mod Comments
+pub mod Empty
