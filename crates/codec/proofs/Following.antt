@@ -32,7 +32,7 @@ length-same b rest l = ap leVal (part-same b rest 0 4 l)
 module _ (b rest : List ℕ) (there : There b) where
   -- the runs that it says are in b
   run-inside : (r : ℕ) → r < runsIn b → 6 + 14 * r + 14 ≤ length b
-  run-inside r l = omega (arith, there .1)
+  run-inside r l = omega arith
 
   start-same : (r : ℕ) → r < runsIn b → startIn (b ++ rest) r ≡ startIn b r
   start-same r l = ap (decode 8) (part-same b rest (6 + 14 * r) 8 (omega (arith, run-inside r l)))
@@ -46,7 +46,7 @@ module _ (b rest : List ℕ) (there : There b) where
   total-same (suc r) l = rw (total-same r (omega arith), part-same b rest (6 + 14 * r + 10) 4 (omega (arith, run-inside r l)))
 
   runs-same : runsIn (b ++ rest) ≡ runsIn b
-  runs-same = ap (λ n. (n - 2) / 14) (length-same b rest (there .0))
+  runs-same = ap (λ n. (n - 2) / 14) (length-same b rest (omega arith))
 
   -- values that agree at each run
   same-each : {A : Type 0} (f g : ℕ → A) (d : A) → ((r : ℕ) → r < runsIn b → f r ≡ g r) → each f (runsIn (b ++ rest)) ≡ each g (runsIn b)
@@ -62,20 +62,20 @@ module _ (b rest : List ℕ) (there : There b) where
       (same-each (stepIn (b ++ rest)) (stepIn b) (pos 0) step-same)
 
   kind-same : 2 ≤ lengthIn b → kindIn (b ++ rest) ≡ kindIn b
-  kind-same l = ap leVal (part-same b rest 4 2 (omega (arith, there .1)))
+  kind-same l = ap leVal (part-same b rest 4 2 (omega arith))
 
   -- and so is what reading says, also where it refuses
   pub read-same : (starts ends steps : ℕ) → readOf (b ++ rest) starts ends steps ≡ readOf b starts ends steps
   unfolding readOf tried
   read-same starts ends steps =
       let longer : length b ≤ length (b ++ rest) = rw length-append (omega arith) in
-      let size = length-same b rest (there .0) in
+      let size = length-same b rest (omega arith) in
       let ends-same : endsOk (columnIn (b ++ rest) .ends) ≡ endsOk (columnIn b .ends) = ap (λ (c : Column). endsOk (c .ends)) column-same in
       let reach-same : reachOk half64 (columnIn (b ++ rest)) ≡ reachOk half64 (columnIn b) = ap (reachOk half64) column-same in
-      rw (ends-same, reach-same, le-ltb (length (b ++ rest)) 4 (omega (arith, there .0)), le-ltb (length b) 4 (there .0), size, le-ltb (length (b ++ rest)) (4 + lengthIn b) (omega (arith, there .1)))
+      rw (ends-same, reach-same, le-ltb (length (b ++ rest)) 4 (omega arith), le-ltb (length b) 4 (omega arith), size, le-ltb (length (b ++ rest)) (4 + lengthIn b) (omega arith))
       (either (ltb (lengthIn b) 2 || ltb 57346 (lengthIn b))
       (λ t. rw t)
-      (λ t. rw (t, kind-same (ltb-false (lengthIn b) 2 (or-left (ltb (lengthIn b) 2) (ltb 57346 (lengthIn b)) t)), le-ltb (length b) (4 + lengthIn b) (there .1))))
+      (λ t. rw (t, kind-same (ltb-false (lengthIn b) 2 (or-left (ltb (lengthIn b) 2) (ltb 57346 (lengthIn b)) t)), le-ltb (length b) (4 + lengthIn b) there)))
 
 -- The other way round: of bytes that hold a whole record no more is read than it says, its length's four bytes among them.
 module _ (b : List ℕ) (there : There b) where
@@ -86,14 +86,14 @@ module _ (b : List ℕ) (there : There b) where
   parts = take-append-drop (4 + lengthIn b) b
 
   long : length alone ≡ 4 + lengthIn b
-  long = length-take-le (4 + lengthIn b) b (there .1)
+  long = length-take-le (4 + lengthIn b) b there
 
   said : lengthIn alone ≡ lengthIn b
   said = sym (length-same alone (drop (4 + lengthIn b) b) (rw long (omega arith))) ∙ ap lengthIn parts
 
   pub record-alone : (starts ends steps : ℕ) → (readOf alone starts ends steps ≡ readOf b starts ends steps) × (columnIn alone ≡ columnIn b)
   record-alone starts ends steps =
-      let all : There alone = (rw long (omega arith), omega (arith, long, said)) in (
+      let all : There alone = omega (arith, long, said) in (
         sym (read-same alone (drop (4 + lengthIn b) b) all starts ends steps) ∙ ap (λ x. readOf x starts ends steps) parts,
         sym (column-same alone (drop (4 + lengthIn b) b) all) ∙ ap columnIn parts,
       )

@@ -7,7 +7,7 @@ use Rattle.codec.specs.Record.{lengthIn}
 
 -- the four bytes of length are there, and all that they count
 abbrev pub There : List ℕ → Type 0
-There bytes = (4 ≤ length bytes) × (4 + lengthIn bytes ≤ length bytes)
+There bytes = 4 + lengthIn bytes ≤ length bytes
 
 -- "The empty column", and its six bytes: a length of 2, and the kind
 abbrev pub noRuns : Column

@@ -2,7 +2,7 @@
 use Prim.Native.Nat.{ℕ, zero, _-_, _≤_, _<_}
 use mathlib.Core.Path.{_≡_, refl, sym, ap, _∙_}
 use mathlib.Core.Bool.{true, false, not}
-use mathlib.Core.List.{List, [], _∷_}
+use mathlib.Core.List.{List, [], _∷_, _++_}
 use mathlib.Core.Option.{none}
 use native.Mathlib.Omega.{arith}
 use borrow.Author.Tests.{lt-ltb, le-ltb, le-leb, ltb-false, eq-eqb}
@@ -187,12 +187,12 @@ module _ (low up : Limit) where
   pub empty-values : (ss : List ℕ) → valuesOf (nowhere .sequence) low up (windows ss (zeros ss)) ≡ []
   unfolding windows valuesOf
   empty-values [] = refl
-  empty-values (w ∷ ws) = rw (no-values w) (empty-values ws)
+  empty-values (w ∷ ws) = ap (λ (xs : List ℤ). xs ++ valuesOf (nowhere .sequence) low up (windows ws (zeros ws))) (no-values w) ∙ empty-values ws
 
   pub empty-counts : (ss : List ℕ) → countsOf (nowhere .sequence) low up (windows ss (zeros ss)) ≡ zeros ss
   unfolding windows countsOf
   empty-counts [] = refl
-  empty-counts (w ∷ ws) = rw (no-values w) (same-after 0 (empty-counts ws))
+  empty-counts (w ∷ ws) = ap (λ (xs : List ℤ). length xs ∷ countsOf (nowhere .sequence) low up (windows ws (zeros ws))) (no-values w) ∙ same-after 0 (empty-counts ws)
 
 all-inside : (ss : List ℕ) → every (λ (w : Span). not (ltb (nowhere .sequence .size) (w .end))) (windows ss (zeros ss)) ≡ true
 unfolding windows every endBefore
