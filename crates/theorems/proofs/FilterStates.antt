@@ -32,7 +32,7 @@ use Rattle.bounds.specs.Bounds.{isExclusive, meetsUpper, within}
 use Rattle.filter_interval.specs.Filter.{Move, Next, Seek, Call, Sifting, lowerOf, upperOf, raised, past, arrive, moveScan, accepts, settle, stepFrom, callOf, currentIn, filterCurrentOf, filterResetOf}
 use Rattle.filter_interval.specs.Inner.{upFor}
 use Rattle.theorems.specs.Exact.{accepted, soundSource}
-use Rattle.theorems.specs.Comments.{Inside, passed, Outside}
+use Rattle.theorems.specs.Comments.{Inside, passed, Past, Outside}
 use Rattle.theorems.proofs.FilterCalls.{call-accepts, call-does, call-keeps, filter-current-accepts, filter-current-does}
 use Rattle.theorems.proofs.Moves.{Restricted, in-place, restricted-bad}
 use Rattle.theorems.proofs.AcceptedRuns.{step-begun}
@@ -79,8 +79,8 @@ module _ (q : Sequence) where
 
 -- ---- what a call comes to
 
--- "greater than the upper bound": above its value, or at it where the bound is exclusive
-pub past-upper : (v : ℤ) (b : Bound) → (meetsUpper v b ≡ false) ↔ ((ltZ (b .value) v ≡ true) ⊎ ((v ≡ b .value) × (b .boundary ≡ Exclusive)))
+-- "greater than the upper bound"
+pub past-upper : (v : ℤ) (b : Bound) → (meetsUpper v b ≡ false) ↔ Past v b
 unfolding meetsUpper
 past-upper v b = by (b .boundary)
   where
@@ -227,7 +227,7 @@ module _ (p : Source) (f : Filter) (k : Call) (ok : accepted (callOf p k f .said
 pub before-current : (p : Source) (f : Filter) → f .state ≡ Before → accepted (filterCurrentOf p f) ≡ true → filterCurrentOf p f ≡ Gives none
 before-current p f h ok = filter-current-does p f ok ∙ ap (λ (t : FilterState). Gives (currentIn (p .sequence) f t)) h
 
--- and no call was accepted since it was made or reset. (Its scan may stand on a value that is not lower: FilterComments `before-not-lower`.)
+-- and no call was accepted since it was made or reset. (Its scan may stand on a value that is not lower: BoundComments `before-not-lower`.)
 pub before-exactly : (p : Source) (f : Filter) (k : Call) → (callOf p k f .filter .state ≡ Before) ↔ ((accepted (callOf p k f .said) ≡ false) × (f .state ≡ Before))
 before-exactly p f k = (
   λ h. either (accepted (callOf p k f .said))

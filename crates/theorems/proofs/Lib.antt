@@ -25,5 +25,5 @@ pub mod Reset
 pub mod Each
 pub mod EmptyColumn
 pub mod FilterStates
-pub mod FilterComments
+pub mod BoundComments
 pub mod StepComments

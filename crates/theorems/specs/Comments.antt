@@ -3,17 +3,20 @@ use Prim.Native.Nat.{ℕ, zero, suc}
 use mathlib.Core.Path.{_≡_}
 use mathlib.Core.Bool.{Bool, true, not}
 use mathlib.Core.List.{List}
+use mathlib.Core.Logic.{_⊎_}
 use mathlib.Core.Option.{Option, some, none}
 use lib.IntN.{ℤ, _+ℤ_, _-ℤ_}
+use lib.Signed.{ltZ}
 use Rattle.ranges.specs.Ranges.{every}
 use Rattle.keys.specs.Widths.{fitsIn, half16}
 use Rattle.meaning.specs.Refusals.{Gives}
 use Rattle.meaning.specs.Sequence.{Sequence}
+use Rattle.bounds.specs.declared.BoundaryType.the-variants.{Exclusive}
 use Rattle.bounds.specs.declared.Bound.{Bound}
 use Rattle.bounds.specs.declared.Limit.{Limit}
 use Rattle.filter_interval.specs.declared.FilterState.the-variants.{Within, After}
 use Rattle.loftsplice.specs.Scan.{elementIn}
-use Rattle.bounds.specs.Bounds.{meetsLower, meetsUpper, within}
+use Rattle.bounds.specs.Bounds.{isExclusive, greatest, meetsLower, meetsUpper, above, within}
 use Rattle.filter_interval.specs.Filter.{Sifting}
 
 -- ---- filter_interval.rs: what a call leaves
@@ -31,12 +34,24 @@ abbrev pub passed : Limit → Option ℤ → Bool
 passed up (some v) = not (within up v)
 passed up none = true
 
+-- "greater than the upper bound": above its value, or at it where the bound is exclusive
+abbrev pub Past : ℤ → Bound → Type 0
+Past v b = (ltZ (b .value) v ≡ true) ⊎ ((v ≡ b .value) × (b .boundary ≡ Exclusive))
+
 pub record Outside (q : Sequence) (up : Limit) (m : Sifting) : Type 0 where
   pub state-is : m .filter .state ≡ After
   pub gives : m .said ≡ Gives none
   pub is-passed : passed up (elementIn q (m .filter .scan .state)) ≡ true
 
+-- Before: "[ColumnScanFilterInterval]'s value is lower than the lower bound of the interval". Not so after reset: v is not lower than any of the lower bounds.
+abbrev pub NotLower : List Bound → ℤ → Type 0
+NotLower bs v = above (greatest bs) v ≡ true
+
 -- ---- filter_interval.rs: bounds
+
+-- "Whether the value is included or excluded in this bound"
+abbrev pub included : Bound → Bool
+included b = not (isExclusive (b .boundary))
 
 -- "has to satisfy all the lower bounds in this list", and "all the upper bounds"
 abbrev pub satisfiesLower : List Bound → ℤ → Bool

@@ -32,7 +32,7 @@ use Rattle.filter_interval.specs.Filter.{Move, Call, lowerOf, upperOf, newFilte
 use Rattle.theorems.specs.Exact.{accepted}
 use Rattle.theorems.specs.Demand3.{answersOf, answers, moves, allLower, allUpper, meetsAll, tied, earliest, answerAt, counts, expectedFrom}
 use Rattle.theorems.specs.Runs.{letThrough}
-use Rattle.theorems.specs.Comments.{Inside, Outside, satisfiesLower, satisfiesUpper}
+use Rattle.theorems.specs.Comments.{Inside, Outside, NotLower, included, satisfiesLower, satisfiesUpper}
 use Rattle.theorems.proofs.Bounds.{lower-all, upper-all, upper-untied, folded-twice}
 use Rattle.theorems.proofs.Expected.{meets-there}
 use Rattle.theorems.proofs.Folded.{untied}
@@ -42,7 +42,7 @@ use Rattle.theorems.proofs.FilterStates.{call-comes-to}
 -- ---- a bound
 
 -- "Whether the value is included or excluded in this bound"
-pub value-included : (b : Bound) → (meetsLower (b .value) b ≡ not (isExclusive (b .boundary))) × (meetsUpper (b .value) b ≡ not (isExclusive (b .boundary)))
+pub value-included : (b : Bound) → (meetsLower (b .value) b ≡ included b) × (meetsUpper (b .value) b ≡ included b)
 unfolding meetsLower meetsUpper
 value-included b = by (b .boundary)
   where
@@ -111,8 +111,9 @@ in-front b [] ys i = absurd i
 in-front b (x ∷ xs) ys (inl e) = inl e
 in-front b (x ∷ xs) ys (inr i) = inr (in-front b xs ys i)
 
--- "[ColumnScanFilterInterval] does only return values within a certain interval": a new filter on a fresh scan, calls that are all accepted, and a value v that
--- one of them gives, which is then the filter's current value (FilterStates `current-is-the-answer`).
+-- "[ColumnScanFilterInterval] does only return values within a certain interval", "[ColumnScan] that restricts its subscan to an interval of permissable value.":
+-- a new filter on a fresh scan, calls that are all accepted, and a value v that one of them gives, which is then the filter's current value (FilterStates
+-- `current-is-the-answer`).
 module _ (p : Source) (start end : ℕ) (lows ups : List Bound) (k : Call) (ks : List Call) (all-accepted : every accepted (answers p start end lows ups k ks) ≡ true)
     (v : ℤ) (given : In (Gives (some v)) (answers p start end lows ups k ks)) where
   pub only-within : letThrough (allLower lows k) (allUpper ups k) v ≡ true
@@ -147,7 +148,7 @@ module _ (p : Source) (start end : ℕ) (lows ups : List Bound) (k : Call) (v : 
   called = callOf p k (newFilter (fresh start end) lows ups) .filter
 
   pub before-not-lower : callOf p k (newFilter (fresh start end) lows ups) .said ≡ Gives (some v)
-      → (filterResetOf called .state ≡ Before) × (elementIn (p .sequence) (filterResetOf called .scan .state) ≡ some v) × (above (greatest (allLower lows k)) v ≡ true)
+      → (filterResetOf called .state ≡ Before) × (elementIn (p .sequence) (filterResetOf called .scan .state) ≡ some v) × NotLower (allLower lows k) v
   unfolding answersOf every
   before-not-lower h = (refl, stands, lower-all (allLower lows k) v ∙ all-lower-met p start end lows ups k [] (rw h) v (inl (sym h)))
     where
