@@ -58,7 +58,7 @@ module _ (p : Source) (start end : ℕ) where
   unfolding allowedScan badScan risingWindow
   allowed-seek x = rw or-false
 
-  -- Of a run of searches all are accepted, or the first one is refused: it depends on the window alone.
+  -- A run of searches is accepted throughout exactly if the window rises and ends within a sound column: it depends on neither the numbers nor their order.
   pub searches-accepted-exactly-if : (k : ℤ) (ks : List ℤ) → every accepted (seeks p (fresh start end) (k ∷ ks)) ≡ risingWindow p start end
   unfolding every
   searches-accepted-exactly-if k ks =
