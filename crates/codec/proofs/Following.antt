@@ -1,23 +1,22 @@
 -- "what follows the record is not read": of any bytes, whatever they hold. Assumes nothing.
-use Prim.Native.Nat.{ℕ, zero, suc, _+_, _-_, _*_, _/_, _%_, _≤_, _<_}
+use Prim.Native.Nat.{ℕ, zero, suc, _+_, _-_, _*_, _/_, _≤_, _<_}
 use mathlib.Core.Path.{_≡_, refl, sym, ap, _∙_}
-use mathlib.Core.Bool.{Bool, true, false, not, _||_}
+use mathlib.Core.Bool.{_||_}
 use mathlib.Core.List.{List, _++_}
 use native.Mathlib.Omega.{arith}
-use native.Mathlib.Nat.{le-refl}
 use borrow.Author.Tests.{le-ltb, ltb-false}
-use lib.Dec.{ltb, eqb}
+use lib.Dec.{ltb}
 use lib.ListN.{length, take, drop, length-append, length-drop, take-append-drop}
 use lib.Seq.{take-append-le, drop-append-le, length-take-le}
-use lib.IntN.{ℤ, pos}
+use lib.IntN.{pos}
 use Rattle.ranges.proofs.Bools.{either, or-left}
 use Rattle.keys.specs.Widths.{half64}
-use Rattle.meaning.specs.Refusals.{Said, tried}
+use Rattle.meaning.specs.Refusals.{tried}
 use Rattle.meaning.specs.Column.{Column, endsOk, reachOk}
 use Rattle.meaning.specs.Parts.{each}
 use Rattle.meaning.proofs.Parts.{each-length, each-at, each-is}
 use Rattle.codec.specs.Bytes.{leVal, decode, bytesAt}
-use Rattle.codec.specs.Record.{lengthIn, kindIn, runsIn, startIn, stepIn, countIn, totalIn, columnIn, Found, readOf}
+use Rattle.codec.specs.Record.{lengthIn, kindIn, runsIn, startIn, stepIn, totalIn, columnIn, readOf}
 use Rattle.codec.specs.Following.{There}
 use Rattle.codec.proofs.Trips.{same-column}
 

@@ -1,9 +1,9 @@
 -- The doc comments of the Rust's filter_interval.rs on bounds, sentence by sentence; those on its three states: FilterStates. Assumes nothing.
 use Prim.Native.Nat.{ℕ}
 use mathlib.Core.Path.{_≡_, refl, sym, ap, _∙_}
-use mathlib.Core.Bool.{Bool, true, false, cond, not, _&&_, _||_}
+use mathlib.Core.Bool.{Bool, true, false, cond, not}
 use mathlib.Core.List.{List, [], _∷_, _++_}
-use mathlib.Core.Option.{Option, some, none}
+use mathlib.Core.Option.{some}
 use mathlib.Core.Logic.{_⊎_, inl, inr}
 use native.Mathlib.Omega.{arith}
 use borrow.Author.Tests.{ltb-true}
@@ -13,7 +13,7 @@ use lib.Signed.{ltZ}
 use Rattle.ranges.specs.Ranges.{every}
 use Rattle.ranges.proofs.Bools.{either, and-left, and-right, In, every-at, at-every}
 use Rattle.ranges.proofs.Order.{lt-self}
-use Rattle.meaning.specs.Refusals.{Said, Gives}
+use Rattle.meaning.specs.Refusals.{Gives}
 use Rattle.meaning.specs.Sequence.{Sequence, Source}
 use Rattle.meaning.proofs.Judging.{none-given}
 use Rattle.loftsplice.specs.declared.scan.Scan.{Scan}
@@ -22,8 +22,7 @@ use Rattle.bounds.specs.declared.BoundaryType.the-variants.{Inclusive, Exclusiv
 use Rattle.bounds.specs.declared.Bound.{Bound}
 use Rattle.bounds.specs.declared.Variable.{Variable}
 use Rattle.bounds.specs.declared.Input.{Input}
-use Rattle.bounds.specs.declared.Limit.{Limit}
-use Rattle.bounds.specs.declared.Limit.the-variants.{Free, To}
+use Rattle.bounds.specs.declared.Limit.the-variants.{To}
 use Rattle.filter_interval.specs.declared.FilterState.the-variants.{Before, After}
 use Rattle.filter_interval.specs.declared.Filter.{Filter}
 use Rattle.loftsplice.specs.Scan.{fresh, elementIn}

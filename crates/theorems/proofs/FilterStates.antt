@@ -29,7 +29,7 @@ use Rattle.filter_interval.specs.declared.Filter.{Filter}
 use Rattle.loftsplice.specs.Scan.{Outcome, goTo, nextFrom, seekFrom, elementIn, badScan}
 use Rattle.loftsplice.specs.Lead.{found}
 use Rattle.bounds.specs.Bounds.{isExclusive, meetsUpper, within}
-use Rattle.filter_interval.specs.Filter.{Move, Next, Seek, Call, Sifting, lowerOf, upperOf, raised, past, arrive, moveScan, accepts, settle, stepFrom, callOf, currentIn, filterCurrentOf, filterResetOf}
+use Rattle.filter_interval.specs.Filter.{Move, Next, Seek, Call, Sifting, lowerOf, upperOf, raised, past, arrive, moveScan, settle, stepFrom, callOf, currentIn, filterCurrentOf}
 use Rattle.filter_interval.specs.Inner.{upFor}
 use Rattle.theorems.specs.Exact.{accepted, soundSource}
 use Rattle.theorems.specs.Comments.{Inside, passed, Past, Outside}

@@ -3,7 +3,7 @@
 -- `filled` reads a refused answer as "not found". So whoever fills must stop at a refusal; here is why, and that none can be given where the column rises.
 use Prim.Native.Nat.{ℕ}
 use mathlib.Core.Path.{_≡_, refl, sym, ap, _∙_}
-use mathlib.Core.Bool.{true, false, not, _&&_}
+use mathlib.Core.Bool.{true, false}
 use mathlib.Core.List.{List, [], _∷_, map}
 use mathlib.Core.Option.{Option}
 use native.Mathlib.Nat.{le-refl}
@@ -17,7 +17,7 @@ use Rattle.meaning.specs.Sequence.{Source, rises}
 use Rattle.meaning.specs.Column.{Column, sizeOf, sequenceOf, sound, sourceOf}
 use Rattle.loftsplice.specs.Lead.{found}
 use Rattle.loftsplice.specs.Scan.{fresh, badScan, seekOf}
-use Rattle.filter_interval.specs.Filter.{Move, Seek}
+use Rattle.filter_interval.specs.Filter.{Seek}
 use Rattle.theorems.specs.Exact.{accepted, soundSource}
 use Rattle.theorems.specs.Runs.{scanAnswers, allowedScan, risingWindow}
 use Rattle.theorems.specs.Audit.{seeks, filled}

@@ -15,7 +15,7 @@ use Rattle.filter_interval.specs.declared.FilterState.{FilterState}
 use Rattle.filter_interval.specs.declared.FilterState.the-variants.{Before, Within, After}
 use Rattle.filter_interval.specs.declared.Filter.{Filter}
 use Rattle.loftsplice.specs.Scan.{Outcome}
-use Rattle.bounds.specs.Bounds.{greatest, least, bounds}
+use Rattle.bounds.specs.Bounds.{bounds}
 use Rattle.filter_interval.specs.Filter.{Call, accepts, settle, stepFrom, arrive, raised, lowerOf, upperOf, moveScan, newFilter, fitOf, callOf, filterResetOf}
 use Rattle.theorems.specs.Exact.{accepted}
 use Rattle.theorems.specs.Table.{FilterAct, ask, again, look, filterAct, sifts}

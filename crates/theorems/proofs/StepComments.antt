@@ -1,7 +1,7 @@
 -- The doc comments of the Rust's run_length_encodable.rs, i64 part, sentence by sentence. Assumes nothing.
-use Prim.Native.Nat.{ℕ, zero, suc, _-_, _≤_, _<_}
-use mathlib.Core.Path.{_≡_, refl, sym, ap, _∙_}
-use mathlib.Core.Bool.{Bool, true, false}
+use Prim.Native.Nat.{ℕ, zero, suc, _-_}
+use mathlib.Core.Path.{_≡_, sym, ap, _∙_}
+use mathlib.Core.Bool.{true}
 use mathlib.Core.Option.{some, none}
 use mathlib.Core.Logic.{_↔_}
 use native.Mathlib.Omega.{arith}
