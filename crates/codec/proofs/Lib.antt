@@ -6,3 +6,5 @@ pub mod Reading
 pub mod Writing
 pub mod Trips
 pub mod Exact
+pub mod Following
+pub mod NoRuns

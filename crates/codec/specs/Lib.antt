@@ -1,3 +1,4 @@
 pub mod Bytes
 pub mod Record
 pub mod Exact
+pub mod Following

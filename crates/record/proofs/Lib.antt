@@ -1,2 +1,3 @@
 pub mod Unique
 pub mod Trips
+pub mod Following

@@ -34,9 +34,9 @@ use Rattle.theorems.proofs.Moves.{Restricted, fresh-restricted, restric
 -- ---- a filter after its first call
 
 -- its scan has the window s..e, and no input is read any more
-record Begun (s e : ℕ) (f : Filter) : Type 0 where
-  scan : Restricted s e (f .scan)
-  reads-none : (k : Call) → unread k (f .state) ≡ false
+pub record Begun (s e : ℕ) (f : Filter) : Type 0 where
+  pub scan : Restricted s e (f .scan)
+  pub reads-none : (k : Call) → unread k (f .state) ≡ false
 
 module _ (q : Sequence) (s e : ℕ) where
   settle-begun : (f : Filter) (up : Limit) (m : Outcome) → Restricted s e (m .scan) → Begun s e (settle f up m .filter)
@@ -53,7 +53,7 @@ module _ (q : Sequence) (s e : ℕ) where
       either (found x (m .said)) (λ t. rw t (move-restricted q (m .scan) Next h)) (λ t. rw t h)
 
   -- what any step leaves
-  step-begun : (k : Call) (f : Filter) → Restricted s e (f .scan) → Begun s e (stepFrom q k f (f .state) .filter)
+  pub step-begun : (k : Call) (f : Filter) → Restricted s e (f .scan) → Begun s e (stepFrom q k f (f .state) .filter)
   unfolding stepFrom
   step-begun k f r = by (f .state) refl
     where

@@ -116,7 +116,7 @@ module _ (q : Sequence) (e : ℕ) (ok : ℤ → Bool) where
   ahead-is a b Next = such-next a
   ahead-is a b (Seek x) = below-for x (e - b) b refl
 
-  meets-there : (a b : ℕ) (m : Move) → earliest q e ok a b m < e → ok (q .at (earliest q e ok a b m)) ≡ true
+  pub meets-there : (a b : ℕ) (m : Move) → earliest q e ok a b m < e → ok (q .at (earliest q e ok a b m)) ≡ true
   unfolding earliest
   meets-there a b Next l = first-known (λ i. ok (q .at i)) a e .holds l
   meets-there a b (Seek x) l =

@@ -21,9 +21,9 @@ use Rattle.bounds.specs.declared.Bounds.{Bounds}
 use Rattle.filter_interval.specs.declared.FilterState.{FilterState}
 use Rattle.filter_interval.specs.declared.FilterState.the-variants.{Before, Within, After}
 use Rattle.filter_interval.specs.declared.Filter.{Filter}
-use Rattle.loftsplice.specs.Scan.{Outcome, badScan}
+use Rattle.loftsplice.specs.Scan.{Outcome, badScan, onScan}
 use Rattle.bounds.specs.Bounds.{bounds}
-use Rattle.filter_interval.specs.Filter.{Call, Sifting, newFilter, accepts, settle, stepFrom, tooMany, unread, refuseCall, fitOf, callOf, filterCurrentOf, upperOf, allReadable}
+use Rattle.filter_interval.specs.Filter.{Call, Sifting, newFilter, accepts, settle, stepFrom, tooMany, unread, refuseCall, fitOf, callOf, currentIn, filterCurrentOf, upperOf, allReadable}
 use Rattle.theorems.specs.Exact.{earlier, accepted, soundSource}
 use Rattle.theorems.proofs.Exactly.{Speaks, plainly, exact, accepted-exactly, refused-is, accepted-is, OfScan, scan-tests}
 use Rattle.theorems.proofs.ScanCalls.{scan-refuses, scan-accepts}
@@ -128,3 +128,8 @@ module _ (p : Source) (f : Filter) where
   pub filter-current-accepts : (accepted (filterCurrentOf p f) ≡ true) ↔ ((soundSource p ≡ true) × (bad ≡ false))
   unfolding filterCurrentOf
   filter-current-accepts = scan-accepts p (f .scan) (plainly _)
+
+  -- "the scan's current when Within, else none"
+  pub filter-current-does : accepted (filterCurrentOf p f) ≡ true → filterCurrentOf p f ≡ Gives (currentIn (p .sequence) f (f .state))
+  unfolding filterCurrentOf
+  filter-current-does = accepted-is (plainly _) (onScan p (f .scan))

@@ -20,3 +20,10 @@ pub mod Audit
 pub mod Table
 pub mod Parts
 pub mod Batch
+pub mod Refused
+pub mod Reset
+pub mod Each
+pub mod EmptyColumn
+pub mod FilterStates
+pub mod BoundComments
+pub mod StepComments

@@ -4,3 +4,7 @@ pub mod Runs
 pub mod Audit
 pub mod Batch
 pub mod Table
+pub mod Answered
+pub mod Resets
+pub mod Comments
+pub mod Empty

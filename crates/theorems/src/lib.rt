@@ -10,11 +10,17 @@
 //   Audit         record numbers that are sought in a presence column, and the list of filled logs
 //   Batch         one listing, what it leaves in its two arrays, and the part of the output that each window has
 //   Table         P1 to P12, and rows of our own
+//   Answered      single answers of a run: which searches were refused, which element a call may give
+//   Resets        calls on a filter, resets among them: the filter that they leave, and its initial state
+//   Comments      what the Rust's doc comments on filters and steps come to
+//   Empty         the empty column
 //
 // The theorems, proofs/:
 //   Demand3       a run of accepted calls answers what is expected; none stays; next alone lists; any run, refused calls among them
+//   Each          demand 3 answer by answer: the j-th answer is the earliest such element, and none exactly if there is none
 //   AcceptedRuns  a run on a new filter is accepted exactly if it is acceptable
 //   Audit         a number is answered with itself exactly if it is in the column; the filled logs are those that lack it; through a filter
+//   Refused       on a rising presence column no search is refused, so no log is filled by a refusal; on another each is, and would be
 //   ScanRuns      runs on one scan: nothing is stepped past, next alone gives every element, all answer what is expected
 //   Batch         a window's part of the output is what next alone gives; its count; the sum; what is left alone; windows that repeat
 //   Table         the table's one theorem, computed
@@ -24,7 +30,12 @@
 //   ScanCalls     of each call on a scan
 //   FilterCalls   of each call on a filter
 //   ListingCalls  of the batch listing
-//   DocComments   the Rust's doc comments, sentence by sentence
+//   DocComments   the Rust's doc comments of column and scan, sentence by sentence
+//   FilterStates  those of the filter's three states, and what is true where they are wrong
+//   BoundComments those of the filter's bounds
+//   StepComments  those of steps
+//   Reset         a filter's reset after any calls: a new filter on the scan as it stands
+//   EmptyColumn   the empty column, call by call
 //   Columns       each index lies in one run, every element fits, short windows rise
 //   Bounds        the folded bound is met exactly if every bound is, but for a tie
 //
