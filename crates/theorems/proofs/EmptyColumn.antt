@@ -9,8 +9,9 @@ use borrow.Author.Tests.{lt-ltb, le-ltb, le-leb, ltb-false, eq-eqb}
 use lib.Dec.{ltb}
 use lib.ListN.{length, length-map}
 use lib.IntN.{ℤ}
+use Rattle.loftsplice.specs.declared.leading.Lead.the-variants.{Go}
 use Rattle.ranges.specs.Ranges.{allFor, firstFor, every}
-use Rattle.ranges.proofs.Bools.{and-false, or-left, same-after}
+use Rattle.ranges.proofs.Bools.{or-left, same-after, either}
 use Rattle.meaning.specs.Refusals.{fine, Gives, Number, tried}
 use Rattle.meaning.specs.Sequence.{Sequence, rises, firstNotBelow, elementsFor}
 use Rattle.meaning.specs.Column.{endBefore, runOf, shapeOk, endsOk, reachOk, sound}
@@ -45,15 +46,15 @@ pub empty-sound : sound empty ≡ true
 unfolding sound shapeOk endsOk reachOk allFor
 empty-sound = refl
 
-pub empty-check : checkOf empty ≡ Gives fine
+pub empty-check : checkOf nowhere ≡ Gives fine
 unfolding checkOf tried shapeOk endsOk reachOk allFor
 empty-check = refl
 
-pub empty-len : lenOf empty ≡ Gives 0
+pub empty-len : lenOf nowhere ≡ Gives 0
 unfolding lenOf tried shapeOk endsOk reachOk allFor endBefore
 empty-len = refl
 
-pub empty-is-empty : isEmptyOf empty ≡ Gives true
+pub empty-is-empty : isEmptyOf nowhere ≡ Gives true
 unfolding isEmptyOf tried shapeOk endsOk reachOk allFor endBefore
 empty-is-empty = refl
 
@@ -66,7 +67,7 @@ pub empty-place-above : (i : ℕ) → 0 < i → placeOf empty i ≡ Number 4
 unfolding placeOf tried shapeOk endsOk reachOk allFor endBefore
 empty-place-above i l = rw (lt-ltb 0 i l)
 
-pub empty-get : (i : ℕ) → getOf empty i ≡ Number 4
+pub empty-get : (i : ℕ) → getOf nowhere i ≡ Number 4
 unfolding getOf tried shapeOk endsOk reachOk allFor endBefore
 empty-get i = rw (le-leb 0 i (omega arith))
 
@@ -146,14 +147,22 @@ module _ (s : Scan) (good : badScan (nowhere .sequence) s ≡ false) where
 
   -- ---- the filter's calls, on that scan
 
-  arrive-over : (low : Limit) → arrive q low s .said ≡ Gives none
-  unfolding arrive past
-  arrive-over Free = ap (λ (m : Outcome). m .said) (next-over (s .state) (in-place q s good))
-  arrive-over (To b) = rw (seek-over (b .value) (s .state) (in-place q s good), and-false (isExclusive (b .boundary)) false refl)
-
   move-over : (m : Move) → moveScan q m s .said ≡ Gives none
   move-over Next = ap (λ (m : Outcome). m .said) (next-over (s .state) (in-place q s good))
   move-over (Seek x) = ap (λ (m : Outcome). m .said) (seek-over x (s .state) (in-place q s good))
+
+  past-over : (x : ℤ) → onPast q x (moveScan q (Seek x) s) .said ≡ Gives none
+  unfolding onPast
+  past-over x = rw (move-over (Seek x))
+
+  go-over : (m : Move) → leadFrom q (Go m) s .said ≡ Gives none
+  unfolding leadFrom
+  go-over m = move-over m
+
+  arrive-over : (low : Limit) → leadFrom q (leadTo low) s .said ≡ Gives none
+  unfolding leadFrom
+  arrive-over Free = move-over Next
+  arrive-over (To b) = either (isExclusive (b .boundary)) (λ t. rw t (past-over (b .value))) (λ t. rw t (move-over (Seek (b .value))))
 
 settle-none : (f : Filter) (up : Limit) (m : Outcome) → m .said ≡ Gives none → Barren (settle f up m)
 unfolding settle
@@ -163,7 +172,7 @@ module _ (f : Filter) (good : badScan (nowhere .sequence) (f .scan) ≡ false) w
   step-none : (k : Call) (t : FilterState) → f .state ≡ t → Barren (stepFrom (nowhere .sequence) k f t)
   unfolding stepFrom
   step-none k Before h = settle-none f (upperOf f k) _ (arrive-over (f .scan) good (raised (k .move) (lowerOf f k)))
-  step-none k (Within up) h = settle-none f up _ (move-over (f .scan) good (k .move))
+  step-none k (Within up) h = settle-none f up _ (go-over (f .scan) good (k .move))
   step-none k After h = (refl, h)
 
   -- next and seek that 8 and 9 pass
@@ -208,8 +217,8 @@ all-rise [] = refl
 all-rise (w ∷ ws) = rw (short-rises (nowhere .sequence) w 0 (omega arith)) (all-rise ws)
 
 -- windows ss: their starts; up to 256 and 16 bounds a list, and a place for each count. The sum is 0, and the output may have no place.
-pub empty-listing : (ss : List ℕ) (lows ups : Bounds) (out counts : ℕ) → lows .count ≤ 16 → ups .count ≤ 16 → length ss ≤ 256 → length ss ≤ counts
-    → listOf nowhere ss (zeros ss) lows ups out counts ≡ Gives 0
+pub empty-listing : (ss : List ℕ) (lows ups : Bounds) (out : List ℤ) (counts : List ℕ) → lows .count ≤ 16 → ups .count ≤ 16 → length ss ≤ 256 → length ss ≤ length counts
+    → listOf (record { source = nowhere; starts = ss; ends = zeros ss; lower = lows; upper = ups; out = out; counts = counts }) ≡ Gives 0
 unfolding listOf tried shapeOk endsOk reachOk allFor
 empty-listing ss lows ups out counts l u n room = rw (
   le-ltb 16 (lows .count) l,
@@ -219,6 +228,6 @@ empty-listing ss lows ups out counts l u n room = rw (
   all-inside ss,
   all-rise ss,
   empty-values (greatest (bounds lows)) (least (bounds ups)) ss,
-  le-ltb out 0 (omega arith),
-  le-ltb counts (length ss) room,
+  le-ltb (length out) 0 (omega arith),
+  le-ltb (length counts) (length ss) room,
 )

@@ -2,7 +2,7 @@
 -- Assumes nothing.
 use Prim.Native.Nat.{ℕ}
 use mathlib.Core.Path.{_≡_, refl, sym, ap, _∙_}
-use mathlib.Core.Bool.{true, false, not, _&&_, false≢true}
+use mathlib.Core.Bool.{true, false, not, false≢true}
 use mathlib.Core.Option.{Option, some, none}
 use mathlib.Core.Logic.{_↔_, _⊎_, inl, inr}
 use native.Mathlib.Omega.{arith}
@@ -10,6 +10,7 @@ use borrow.Author.Tests.{not-false}
 use lib.Dec.{ltb}
 use lib.IntN.{ℤ}
 use lib.Signed.{ltZ}
+use Rattle.loftsplice.specs.declared.leading.Lead.the-variants.{Go}
 use Rattle.ranges.proofs.Bools.{either}
 use Rattle.ranges.proofs.Order.{lt-self, lt-same, lt-not}
 use Rattle.meaning.specs.Refusals.{Said, Gives, Number}
@@ -72,12 +73,20 @@ module _ (q : Sequence) where
   move-shows Next s = next-shows s (s .state)
   move-shows (Seek x) s = seek-shows x s (s .state)
 
-  arrive-shows : (low : Limit) (s : Scan) → Shows q (arrive q low s)
-  unfolding arrive past
-  arrive-shows Free s = next-shows s (s .state)
-  arrive-shows (To b) s =
-      let m = seekFrom q (b .value) s (s .state) in
-      either (isExclusive (b .boundary) && found (b .value) (m .said)) (λ t. rw t (next-shows (m .scan) (m .scan .state))) (λ t. rw t (seek-shows (b .value) s (s .state)))
+  past-shows : (x : ℤ) (s : Scan) → Shows q (onPast q x (moveScan q (Seek x) s))
+  unfolding onPast
+  past-shows x s =
+      let m = moveScan q (Seek x) s in
+      either (found x (m .said)) (λ t. rw t (next-shows (m .scan) (m .scan .state))) (λ t. rw t (move-shows (Seek x) s))
+
+  go-shows : (m : Move) (s : Scan) → Shows q (leadFrom q (Go m) s)
+  unfolding leadFrom
+  go-shows m s = move-shows m s
+
+  arrive-shows : (low : Limit) (s : Scan) → Shows q (leadFrom q (leadTo low) s)
+  unfolding leadFrom
+  arrive-shows Free s = move-shows Next s
+  arrive-shows (To b) s = either (isExclusive (b .boundary)) (λ t. rw t (past-shows (b .value) s)) (λ t. rw t (move-shows (Seek (b .value)) s))
 
 -- ---- what a call comes to
 
@@ -120,7 +129,7 @@ step-comes-to : (q : Sequence) (k : Call) (f : Filter) (t : FilterState) → (t 
     → Inside q (upFor k f t) (stepFrom q k f t) ⊎ Outside q (upFor k f t) (stepFrom q k f t)
 unfolding stepFrom
 step-comes-to q k f Before n = settled q f (upperOf f k) _ (arrive-shows q (raised (k .move) (lowerOf f k)) (f .scan))
-step-comes-to q k f (Within up) n = settled q f up _ (move-shows q (k .move) (f .scan))
+step-comes-to q k f (Within up) n = settled q f up _ (go-shows q (k .move) (f .scan))
 step-comes-to q k f After n = absurd (n refl)
 
 -- no state is another

@@ -17,9 +17,9 @@ use Rattle.meaning.specs.Sequence.{Source, rises}
 use Rattle.meaning.specs.Column.{Column, sizeOf, sequenceOf, sound, sourceOf}
 use Rattle.loftsplice.specs.declared.scan.Move.the-variants.{Seek}
 use Rattle.loftsplice.specs.Lead.{found}
-use Rattle.loftsplice.specs.Scan.{fresh, badScan, seekOf}
+use Rattle.loftsplice.specs.Scan.{fresh, badScan, seekOf, saysAll}
 use Rattle.theorems.specs.Exact.{accepted, soundSource}
-use Rattle.theorems.specs.Runs.{scanAnswers, allowedScan, risingWindow}
+use Rattle.theorems.specs.Runs.{allowedScan, risingWindow}
 use Rattle.theorems.specs.Audit.{seeks, filled}
 use Rattle.theorems.specs.Answered.{refusedOf, sevens, answeredOtherwise}
 use Rattle.theorems.proofs.ScanCalls.{seek-refuses-7, seek-keeps}
@@ -84,7 +84,7 @@ module _ (p : Source) (start end : ℕ) where
     refused-7 k = seek-refuses-7 p (fresh start end) k .1 (is-sound, rw inside, falls)
 
     pub falling-refuses-all : (ks : List ℤ) → seeks p (fresh start end) ks ≡ sevens ks
-    unfolding scanAnswers
+    unfolding saysAll
     falling-refuses-all [] = refl
     falling-refuses-all (k ∷ ks) =
         rw (refused-7 k, seek-keeps p (fresh start end) k (ap accepted (refused-7 k))) (same-after (Number 7) (falling-refuses-all ks))

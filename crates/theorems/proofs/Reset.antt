@@ -7,7 +7,6 @@ use mathlib.Core.Option.{none}
 use Rattle.ranges.proofs.Bools.{either}
 use Rattle.meaning.specs.Refusals.{Gives}
 use Rattle.meaning.specs.Sequence.{Sequence, Source}
-use Rattle.loftsplice.specs.Lead.{leadFrom}
 use Rattle.loftsplice.specs.declared.scan.Scan.{Scan}
 use Rattle.bounds.specs.declared.Bound.{Bound}
 use Rattle.bounds.specs.declared.Bounds.{Bounds}
@@ -15,9 +14,9 @@ use Rattle.bounds.specs.declared.Limit.{Limit}
 use Rattle.filter_interval.specs.declared.FilterState.{FilterState}
 use Rattle.filter_interval.specs.declared.FilterState.the-variants.{Before, Within, After}
 use Rattle.filter_interval.specs.declared.Filter.{Filter}
-use Rattle.loftsplice.specs.Scan.{Outcome, moveScan}
+use Rattle.loftsplice.specs.Scan.{Outcome}
 use Rattle.bounds.specs.Bounds.{bounds}
-use Rattle.filter_interval.specs.Filter.{Call, accepts, settle, stepFrom, raised, lowerOf, upperOf, newFilter, fitOf, callOf, filterResetOf, leadTo}
+use Rattle.filter_interval.specs.Filter.{Call, accepts, settle, stepFrom, upperOf, newFilter, fitOf, callOf, filterResetOf}
 use Rattle.theorems.specs.Exact.{accepted}
 use Rattle.theorems.specs.Table.{FilterAct, ask, again, look, filterAct, sifts}
 use Rattle.theorems.specs.Resets.{filterLeft, initial}
@@ -34,8 +33,8 @@ settle-limits f up m = either (accepts up (m .said)) (λ t. rw t (refl, refl)) (
 
 step-limits : (q : Sequence) (k : Call) (f : Filter) (t : FilterState) → SameLimits f (stepFrom q k f t .filter)
 unfolding stepFrom
-step-limits q k f Before = settle-limits f (upperOf f k) (arrive q (raised (k .move) (lowerOf f k)) (f .scan))
-step-limits q k f (Within up) = settle-limits f up (moveScan q (k .move) (f .scan))
+step-limits q k f Before = settle-limits f (upperOf f k) _
+step-limits q k f (Within up) = settle-limits f up _
 step-limits q k f After = (refl, refl)
 
 module _ (p : Source) where

@@ -267,7 +267,7 @@ table =
     ∷ own (scanAt C 9 (next ∷ [])) (scanned (Number 6 ∷ []) (Number 6))
     ∷ own (acts C (fresh 0 10) (next ∷ [])) (scanned (Number 6 ∷ []) (Number 6))
     -- "The empty column is valid."
-    ∷ own (checked (checkOf (column []))) (checked (Gives fine))
+    ∷ own (checked (checkOf (sourceOf (column [])))) (checked (Gives fine))
     -- arrays of unequal length; an end that is not above the one before; one over 4,294,967,295; what is refused first
     ∷ own (checked (checkOf (sourceOf (columnOf (pos 1 ∷ []) (1 ∷ []) [])))) (checked (Number 1))
     ∷ own (checked (checkOf (sourceOf (column (run 1 (pos 1) 3 ∷ run 9 (pos 1) 0 ∷ []))))) (checked (Number 2))
