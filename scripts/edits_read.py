@@ -100,7 +100,9 @@ def fact(says):
     """Whether an error says that a fact fails, and not that a proof does not fit."""
     if re.search(r'`omega`: the (goal|part \S+ of the goal) does not follow from what it read\. All of that holds, and the (goal|part) fails, at ', says):
         return True
-    if re.match(r'`search`: no proof of .* was found\.|`search` does not close', says) or re.search(r'must be a path whose two ends are equal, and .* is none', says):
+    if re.match(r'`search`: no proof of .* was found\.|`search` does not close', says):
+        return True
+    if re.search(r"must be a path whose two ends are equal, and .* is none|this λ's body is `.*`, but the extension \(path\) type requires `", says):
         return True
     pair = re.search(r'expected type `(.*?)`,? but this has type `(.*?)`', says) or re.search(r'`([^`]*)` ≟ `([^`]*)` does not hold', says)
     if not pair or 'Need-' in pair[1] + pair[2]:
