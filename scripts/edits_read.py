@@ -91,9 +91,10 @@ def relation(statement):
         depth += (c in '([{') - (c in ')]}')
         flat += c if depth == 0 else ' '
     front = re.match(r'(?:\S*\.)?(?:(Path)|_(\S+)_)\s', flat)
-    if front:
+    infix = next((sign for sign in '→×⊎≡≤' if f' {sign} ' in flat), '')
+    if front and infix not in ('→', '×', '⊎'):
         return '≡' if front[1] else front[2]
-    return next((sign for sign in '→×⊎≡≤' if f' {sign} ' in flat), flat.split()[0] if flat.split() else '')
+    return infix or flat.split()[0]
 
 
 def fact(says):
@@ -114,7 +115,8 @@ def fact(says):
         return True
     alone = [re.search(rf'computed as far as it goes, the {side} one (?:begins|is) `(.*?)`', says) for side in ('expected', 'found')]
     kinds = {relation(one[1] if one else printed) for one, printed in zip(alone, pair.groups())}
-    return len(kinds) == 1
+    named = any(kind not in ('→', '×', '⊎', '≡', '≤') for kind in kinds)  # printed by a name, and compared when computed
+    return len(kinds) == 1 or named and 'computed as far as they go, the two types first differ where ' in says
 
 
 def judge(edit, status, text):
