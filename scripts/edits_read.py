@@ -66,11 +66,11 @@ START = re.compile(r'(?:note: )?(/?[^\s:]+\.(?:antt|rt)):\d+:\d+: (?:(error|note
 
 
 def first_error(text, crate):
-    """The first error, with the lines that belong to it; or, of a function that has no proof file, the first need that is left."""
+    """The first error that is not another's consequence, with the lines that belong to it; or, of a function that has no proof file, the need that is left."""
     lines = text.splitlines()
     for n, line in enumerate(lines):
         at = START.fullmatch(line)
-        if not at or at[2] != 'error':
+        if not at or at[2] != 'error' or 'was not admitted' in at[3]:
             continue
         says = [at[3]]
         for more in lines[n + 1:]:
