@@ -15,7 +15,10 @@ use Rattle.record.proofs.write.Tie as tie
 
 -- the start, past the check
 abbrev start : tie.After-enum-told → tie.Start
-start c = c .before .before .before .before .before
+start c =
+    let at-slice-known = c .before .before .before in
+    let at-start = at-slice-known .before .before in
+    at-start
 
 abbrev this : tie.After-enum-told → Column
 this c = columnNow (start c .args .starts) (start c .args .ends) (start c .args .steps)

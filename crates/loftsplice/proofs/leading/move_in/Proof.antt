@@ -20,12 +20,14 @@ seek-in-requires c κs = search needs
 
 returns : tie.Need-returns
 returns c =
-    let s = c .before .before .before .before in
+    let at-slice = c .before .before .before in
+    let s = at-slice .before in
     moves-next _ (s .args .scan) (s .args .step) _ (c .before .enum-told .given .1) (c .next-in .ensures)
 
 returns-2 : tie.Need-returns-2
 returns-2 c =
-    let s = c .before .before .before .before .before in
+    let at-match-keys2 = c .before .before .before in
+    let s = at-match-keys2 .before .before in
     let x = c .before .before .step .given .0 .0 in
     moves-seek _ (s .args .scan) (s .args .step) _ x _ (back w64 x (c .before .known-told .given .0 .1)) (c .before .before .step .given .1) (c .seek-in .ensures)
 

@@ -23,8 +23,9 @@ run-in-requires c κs = search needs
 returns : tie.Need-returns Inv-loop μ-loop
 returns c =
     let a = c .before in
+    let at-slice = a .before .before .before in
+    let s = at-slice .before in
     let l = a .before .before .loop in
-    let s = a .before .before .before .before in
     passed-empty (s .args .bytes .now) (s .args .n) (l .i) (l .total) (l .reach) (l .inv) (a .before .loop-test .taken) (a .run-in .result .count) (a .run-in .ensures .1 .1) (s .pre .0) (c .if1 .taken)
 
 cast-total : tie.Need-cast-total Inv-loop μ-loop
@@ -36,8 +37,9 @@ add-total c = omega (arith, c .before .before .before .loop .inv .most)
 returns-2 : tie.Need-returns-2 Inv-loop μ-loop
 returns-2 c =
     let a = c .before .before in
+    let at-slice = a .before .before .before in
+    let s = at-slice .before in
     let l = a .before .before .loop in
-    let s = a .before .before .before .before in
     passed-far (s .args .bytes .now) (s .args .n) (l .i) (l .total) (l .reach) (l .inv) (a .before .loop-test .taken) (a .run-in .result .count) (a .run-in .ensures .1 .1) (s .pre .0) (c .if2 .taken)
 
 sub-reaches : tie.Need-sub-reaches Inv-loop μ-loop
@@ -56,22 +58,25 @@ loop-again : tie.Need-loop-again Inv-loop μ-loop
 loop-again c =
     let e = c .before .before .before in
     let a = e .before .before in
+    let at-slice = a .before .before .before in
+    let s = at-slice .before in
     let l = a .before .before .loop in
-    let s = a .before .before .before .before in
     passed-more (s .args .bytes .now) (s .args .n) (l .i) (l .total) (l .reach) (l .inv) (a .before .loop-test .taken) (a .run-in .result .count) (a .run-in .ensures .1 .1)
     (a .run-in .result .start) (a .run-in .result .step) (c .reaches .result) (e .before .if1 .left) (e .if2 .left) (a .run-in .ensures .0) (a .run-in .ensures .1 .0)
     (rw (back w64 (a .run-in .result .start) (c .before .before .struct-told .given .0 .1), back w16 (a .run-in .result .step) (c .before .struct-told2 .given .1 .0 .1)) at (c .reaches .ensures))
 
 returns-3 : tie.Need-returns-3 Inv-loop μ-loop
 returns-3 c =
+    let at-slice = c .before .before .before in
+    let s = at-slice .before in
     let l = c .before .before .loop in
-    let s = c .before .before .before .before in
     passed-fine (s .args .bytes .now) (s .args .n) (s .pre .0) (l .i) (l .total) (l .reach) (l .inv) (c .before .loop-test .left) (c .if3 .taken)
 
 returns-4 : tie.Need-returns-4 Inv-loop μ-loop
 returns-4 c =
+    let at-slice = c .before .before .before in
+    let s = at-slice .before in
     let l = c .before .before .loop in
-    let s = c .before .before .before .before in
     passed-reach (s .args .bytes .now) (s .args .n) (s .pre .0) (l .i) (l .total) (l .reach) (l .inv) (c .before .loop-test .left) (c .if3 .left)
 
 pub check-runs-spec : {M : Type 1} → statement M

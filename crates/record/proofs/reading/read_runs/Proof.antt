@@ -35,8 +35,12 @@ long-steps : (c : tie.At-loop Inv-loop μ-loop) → length (c .loop .steps) ≡ 
 long-steps c = ap length (c .loop .inv .5) ∙ simp length-sets
 
 -- the next total
-next : (c : tie.After-run-in Inv-loop μ-loop) → c .before .before .loop .total + c .run-in .result .count ≡ totalIn (c .before .before .before .before .before .args .bytes .now) (c .before .before .loop .i + 1)
-next c = rw (c .before .before .loop .inv .1, c .run-in .ensures .1 .1) (total-more (c .before .before .before .before .before .args .bytes .now) (c .before .before .loop .i))
+next : (c : tie.After-run-in Inv-loop μ-loop) →
+    let at-slice-known = c .before .before .before in let at-start = at-slice-known .before .before in c .before .before .loop .total + c .run-in .result .count ≡ totalIn (at-start .args .bytes .now) (c .before .before .loop .i + 1)
+next c =
+    let at-slice-known = c .before .before .before in
+    let at-start = at-slice-known .before .before in
+    rw (c .before .before .loop .inv .1, c .run-in .ensures .1 .1) (total-more (at-start .args .bytes .now) (c .before .before .loop .i))
 
 loop-holds : tie.Need-loop-holds Inv-loop μ-loop
 unfolding joined
@@ -49,25 +53,37 @@ cast-total : tie.Need-cast-total Inv-loop μ-loop
 cast-total c = omega arith
 
 add-total : tie.Need-add-total Inv-loop μ-loop
-add-total c = omega (arith, c .before .before .before .before .before .loop .inv .2)
+add-total c =
+    let at-run-in = c .before .before .before in
+    let at-loop = at-run-in .before .before in
+    omega (arith, at-loop .loop .inv .2)
 
 mul-start : tie.Need-mul-start Inv-loop μ-loop
 mul-start c = search needs
 
 slice-set-from-start : tie.Need-slice-set-from-start Inv-loop μ-loop
-slice-set-from-start c = omega (arith, long-starts (c .before .before .before .before .before))
+slice-set-from-start c =
+    let at-run-in = c .before .before .before in
+    let at-loop = at-run-in .before .before in
+    omega (arith, long-starts (at-loop))
 
 mul-ends : tie.Need-mul-ends Inv-loop μ-loop
 mul-ends c = search needs
 
 slice-write-ends : tie.Need-slice-write-ends Inv-loop μ-loop
-slice-write-ends c = omega (arith, long-ends (c .before .before .before .before .before))
+slice-write-ends c =
+    let at-run-in = c .before .before .before in
+    let at-loop = at-run-in .before .before in
+    omega (arith, long-ends (at-loop))
 
 mul-step : tie.Need-mul-step Inv-loop μ-loop
 mul-step c = search needs
 
 slice-set-from-step : tie.Need-slice-set-from-step Inv-loop μ-loop
-slice-set-from-step c = omega (arith, long-steps (c .before .before .before .before .before))
+slice-set-from-step c =
+    let at-run-in = c .before .before .before in
+    let at-loop = at-run-in .before .before in
+    omega (arith, long-steps (at-loop))
 
 add-i : tie.Need-add-i Inv-loop μ-loop
 add-i c = search needs
@@ -78,8 +94,9 @@ loop-less c = search needs
 loop-again : tie.Need-loop-again Inv-loop μ-loop
 loop-again c =
     let a = c .before .before .before in
+    let at-slice-known = a .before .before .before in
+    let s = at-slice-known .before .before in
     let l = a .before .before .loop in
-    let s = a .before .before .before .before .before in
     let bytes = s .args .bytes .now in (
       omega arith,
       next a,
@@ -100,8 +117,10 @@ same-length-3 c = long-steps (c .before)
 
 returns : tie.Need-returns Inv-loop μ-loop
 returns c =
+    let at-slice = c .before .before .before in
+    let at-start = at-slice .before in
     let l = c .before .loop in
-    let e : l .i ≡ c .before .before .before .before .args .n = omega arith in
+    let e : l .i ≡ at-start .args .n = omega arith in
     (rw e at (l .inv .3), (rw e at (l .inv .4), rw e at (l .inv .5)))
 
 pub read-runs-spec : {M : Type 1} → statement M

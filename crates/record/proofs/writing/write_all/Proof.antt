@@ -26,9 +26,12 @@ same-length c = search needs
 returns : tie.Need-returns
 returns c =
     let third = c .before .before in
-    let second = third .before .before .before .before in
-    let first = second .before .before .before .before in
-    let s = first .before .before .before .before in
+    let at-out2 = third .before .before .before in
+    let second = at-out2 .before in
+    let at-out = second .before .before .before in
+    let first = at-out .before in
+    let at-slice = first .before .before .before in
+    let s = at-slice .before in
     record-stored _ _ (s .args .out .now) _ _ _ refl (first .write-le .ensures) (second .write-le2 .ensures) (third .write-runs .ensures)
 
 pub write-all-spec : {M : Type 1} → statement M

@@ -38,9 +38,12 @@ same-length c = search needs
 returns : tie.Need-returns
 returns c =
     let third = c .before .before in
-    let second = third .before .before .before .before in
-    let first = second .before .before .before .before .before in
-    let s = first .before .before .before .before in
+    let at-out2 = third .before .before .before in
+    let second = at-out2 .before in
+    let at-slice-known2 = second .before .before .before in
+    let first = at-slice-known2 .before .before in
+    let at-slice-known = first .before .before .before in
+    let s = at-slice-known .before in
     run-stored (s .args .start) (s .args .step) (s .args .count) (first .before .unsigned64 .result) (second .before .unsigned16 .result) (s .args .at) (s .args .out .now) _ _ _
     (first .write-le .ensures) (second .write-le2 .ensures) (third .write-le3 .ensures)
     (first .before .unsigned64 .ensures ∙ ap (ofSigned 8) (toZ-ofZ {w = w64} (s .fits .start))) (second .before .unsigned16 .ensures ∙ ap (ofSigned 2) (toZ-ofZ {w = w16} (s .fits .step)))

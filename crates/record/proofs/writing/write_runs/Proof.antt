@@ -45,34 +45,50 @@ mul-write-run : tie.Need-mul-write-run Inv-loop μ-loop
 mul-write-run c = search needs
 
 add-write-run : tie.Need-add-write-run Inv-loop μ-loop
-add-write-run c = omega (arith, known (c .before .before .before .before .before .before) .shaped .few)
+add-write-run c =
+    let at-loop = c .before .before .before in
+    let at-start = at-loop .before .before .before in
+    omega (arith, known (at-start) .shaped .few)
 
 mul-write-run-2 : tie.Need-mul-write-run-2 Inv-loop μ-loop
 mul-write-run-2 c = search needs
 
 shared-slice-copy-out-write-run : tie.Need-shared-slice-copy-out-write-run Inv-loop μ-loop
-shared-slice-copy-out-write-run c = omega (arith, known (c .before .before .before .before .before .before) .shaped .starts-long)
+shared-slice-copy-out-write-run c =
+    let at-loop = c .before .before .before in
+    let at-start = at-loop .before .before .before in
+    omega (arith, known (at-start) .shaped .starts-long)
 
 mul-write-run-3 : tie.Need-mul-write-run-3 Inv-loop μ-loop
 mul-write-run-3 c = search needs
 
 shared-slice-copy-out-write-run-2 : tie.Need-shared-slice-copy-out-write-run-2 Inv-loop μ-loop
-shared-slice-copy-out-write-run-2 c = omega (arith, known (c .before .before .before .before .before .before .before) .shaped .steps-long)
+shared-slice-copy-out-write-run-2 c =
+    let in-loop = c .before .before .before in
+    let at-slice = in-loop .before .before .before in
+    let at-start = at-slice .before in
+    omega (arith, known (at-start) .shaped .steps-long)
 
 sub-write-run : tie.Need-sub-write-run Inv-loop μ-loop
 sub-write-run c =
-    let l = c .before .before .before .before .before in
-    omega (arith, l .loop .inv .1, known (l .before .before .before) .up (l .loop .i) (c .before .before .before .before .loop-test .taken))
+    let at-slice2 = c .before .before .before in
+    let in-loop = at-slice2 .before in
+    let l = in-loop .before in
+    omega (arith, l .loop .inv .1, known (l .before .before .before) .up (l .loop .i) (in-loop .loop-test .taken))
 
 cast-write-run : tie.Need-cast-write-run Inv-loop μ-loop
 cast-write-run c =
-    let l = c .before .before .before .before .before in
-    omega (arith, known (l .before .before .before) .most (l .loop .i) (c .before .before .before .before .loop-test .taken))
+    let at-slice2 = c .before .before .before in
+    let in-loop = at-slice2 .before in
+    let l = in-loop .before in
+    omega (arith, known (l .before .before .before) .most (l .loop .i) (in-loop .loop-test .taken))
 
 write-run-requires : tie.Need-write-run-requires Inv-loop μ-loop
 write-run-requires c κs =
-    let l = c .before .before .before .before .before in
-    omega (arith, long l, l .before .before .before .pre .1, c .before .before .before .before .loop-test .taken)
+    let at-slice2 = c .before .before .before in
+    let in-loop = at-slice2 .before in
+    let l = in-loop .before in
+    omega (arith, long l, l .before .before .before .pre .1, in-loop .loop-test .taken)
 
 add-i : tie.Need-add-i Inv-loop μ-loop
 add-i c = search needs
@@ -83,7 +99,8 @@ loop-less c = search needs
 loop-again : tie.Need-loop-again Inv-loop μ-loop
 loop-again c =
     let r = c .before .before in
-    let l = r .before .before .before .before .before .before in
+    let at-write-run-arg = r .before .before .before in
+    let l = at-write-run-arg .before .before .before in
     let s = l .before .before .before in (
       omega arith,
       before-next (s .args .ends .now) (l .loop .i),
@@ -96,7 +113,9 @@ same-length c = long (c .before)
 
 returns : tie.Need-returns Inv-loop μ-loop
 returns c =
-    let e : c .before .loop .i ≡ length (c .before .before .before .before .args .ends .now) = omega arith in
+    let at-slice = c .before .before .before in
+    let at-start = at-slice .before in
+    let e : c .before .loop .i ≡ length (at-start .args .ends .now) = omega arith in
     rw e at (c .before .loop .inv .2)
 
 pub write-runs-spec : {M : Type 1} → statement M
