@@ -1,8 +1,4 @@
 // check FILE: a column that passed the check, described.
-use crate::printing;
-use crate::printing::signed;
-use crate::printing::text;
-use crate::printing::unsigned;
 use loftsplice::rle::Got;
 use loftsplice::rle::Length;
 use loftsplice::rle::get;
@@ -10,6 +6,10 @@ use loftsplice::rle::len;
 use loftsplice::scan::Made;
 use loftsplice::scan::Scan;
 use meaning::Answer;
+use telling::printing;
+use telling::printing::signed;
+use telling::printing::text;
+use telling::printing::unsigned;
 
 // Whether each element is above the one before: a seek over a window that doesn't rise is refused.
 fn rises(starts: &[i64], ends: &[u64], steps: &[i16]) -> bool {
