@@ -1,11 +1,11 @@
--- `examples_records::stored::cuts` ends, and lends parts that are there. Assumes nothing.
+-- `examples_records::reading::cuts` ends, and lends parts that are there. Assumes nothing.
 use native.Mathlib.Omega.{arith}
 use lib.ListN.{length-take}
 use Prim.Native.Nat.{_-_, _≤_}
 use lib.ListN.{length}
 use borrow.Author.Needs.{needs}
-use Rattle.examples_records.proofs.stored.cuts.Statement.{statement}
-use Rattle.examples_records.proofs.stored.cuts.Tie as tie
+use Rattle.examples_records.proofs.reading.cuts.Statement.{statement}
+use Rattle.examples_records.proofs.reading.cuts.Tie as tie
 
 abbrev Inv-loop : tie.InvT-loop
 Inv-loop bytes k₀ t3 t4 k = k ≤ length bytes
