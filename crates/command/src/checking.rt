@@ -40,15 +40,17 @@ fn sizes(runs: u64, length: u64) -> bool {
     text(b"sound\nruns ") && unsigned(runs) && text(b"\nlength ") && unsigned(length) && text(b"\n")
 }
 
+fn edge(which: &[u8], got: Got) -> bool {
+    text(which) && element(got)
+}
+
 // The first and the last element, where there is one.
 fn edges(starts: &[i64], ends: &[u64], steps: &[i16], length: u64) -> bool {
     if length == 0 {
         return text(b"first none\nlast none\n");
     }
-    text(b"first ")
-        && element(get(starts, ends, steps, 0))
-        && text(b"last ")
-        && element(get(starts, ends, steps, length - 1))
+    edge(b"first ", get(starts, ends, steps, 0))
+        && edge(b"last ", get(starts, ends, steps, length - 1))
 }
 
 fn order(rising: bool) -> bool {
