@@ -1,8 +1,4 @@
 // check FILE: a column that passed the check, described.
-use crate::printing;
-use crate::printing::signed;
-use crate::printing::text;
-use crate::printing::unsigned;
 use loftsplice::rle::Got;
 use loftsplice::rle::Length;
 use loftsplice::rle::get;
@@ -10,6 +6,10 @@ use loftsplice::rle::len;
 use loftsplice::scan::Made;
 use loftsplice::scan::Scan;
 use meaning::Answer;
+use telling::printing;
+use telling::printing::signed;
+use telling::printing::text;
+use telling::printing::unsigned;
 
 // Whether each element is above the one before: a seek over a window that doesn't rise is refused.
 fn rises(starts: &[i64], ends: &[u64], steps: &[i16]) -> bool {
@@ -40,15 +40,17 @@ fn sizes(runs: u64, length: u64) -> bool {
     text(b"sound\nruns ") && unsigned(runs) && text(b"\nlength ") && unsigned(length) && text(b"\n")
 }
 
+fn edge(which: &[u8], got: Got) -> bool {
+    text(which) && element(got)
+}
+
 // The first and the last element, where there is one.
 fn edges(starts: &[i64], ends: &[u64], steps: &[i16], length: u64) -> bool {
     if length == 0 {
         return text(b"first none\nlast none\n");
     }
-    text(b"first ")
-        && element(get(starts, ends, steps, 0))
-        && text(b"last ")
-        && element(get(starts, ends, steps, length - 1))
+    edge(b"first ", get(starts, ends, steps, 0))
+        && edge(b"last ", get(starts, ends, steps, length - 1))
 }
 
 fn order(rising: bool) -> bool {

@@ -1,15 +1,15 @@
 // find FILE K..: whether the column has each number. A record that has no number there is filled.
-use crate::arguments;
-use crate::help;
-use crate::numbers::Signed;
-use crate::printing;
-use crate::printing::signed;
-use crate::printing::text;
-use crate::printing::unsigned;
 use loftsplice::scan::Made;
 use loftsplice::scan::Position;
 use loftsplice::scan::Scan;
 use meaning::Answer;
+use telling::help;
+use telling::printing;
+use telling::printing::signed;
+use telling::printing::text;
+use telling::printing::unsigned;
+use words::arguments;
+use words::numbers::Signed;
 
 fn filled(k: i64) -> bool {
     signed(k, 32) && text(b"filled\n")

@@ -1,7 +1,5 @@
 // list FILE ..: the elements of a window that meet the bounds, in pieces that fit a buffer, so that a listing may have any length.
 ghost use Prim.Native.Nat.{_+_, _≤_, _<_};
-use crate::arguments::Request;
-use crate::printing;
 use bounds::Bound;
 use bounds::BoundaryType;
 use bounds::Bounds;
@@ -12,6 +10,8 @@ use loftsplice::scan::Made;
 use loftsplice::scan::Position;
 use loftsplice::scan::Scan;
 use meaning::Answer;
+use telling::printing;
+use words::arguments::Request;
 
 // A limit as a list of bounds.
 fn listed(limit: Limit) -> Bounds {

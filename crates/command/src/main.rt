@@ -1,14 +1,12 @@
-// The command loftsplice: checks, lists and searches a column that is stored as a record; help.rt says how it is called and what it writes.
+// The command loftsplice: checks, lists and searches a column that is stored as a record; telling::help says how it is called and what it writes.
 // A Rattle program has no exit status. What went wrong is the last line on standard error, of which the wrapper ./loftsplice makes one.
-use crate::arguments::Command;
+use telling::help;
+use words::arguments;
+use words::arguments::Command;
 
-mod arguments;
 mod checking;
 mod finding;
-mod help;
 mod listing;
-mod numbers;
-mod printing;
 mod reading;
 
 fn main() {

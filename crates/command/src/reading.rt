@@ -1,13 +1,13 @@
 // The record, read whole: it has at most 57,350 bytes, and what follows it is not read.
 ghost use Prim.Native.Nat.{_≤_};
-use crate::arguments::Command;
 use crate::checking;
 use crate::finding;
-use crate::help;
 use crate::listing;
-use crate::printing;
 use record::ReadRecord;
 use record::read;
+use telling::help;
+use telling::printing;
+use words::arguments::Command;
 
 // The file that argument 2 names, open for reading, or -1 after a message.
 fn open() -> i32 {

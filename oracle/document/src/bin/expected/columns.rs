@@ -1,4 +1,4 @@
-//! The module `run_only`: steps at the limits, 4,096 runs and one more, columns index by index.
+//! The program examples_columns: steps at the limits, 4,096 runs and one more, columns index by index.
 use crate::{arrays, ask, c, d, told};
 use document::calls::{Call, Runs, Said};
 use std::fmt::Write;

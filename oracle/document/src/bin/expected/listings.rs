@@ -1,4 +1,4 @@
-//! The module `listed`: batch listings, with the whole of both outputs, so that what a call leaves alone shows too.
+//! The program examples_listings: batch listings, with the whole of both outputs, so that what a call leaves alone shows too.
 use crate::{arrays, ask, c, d, far, told};
 use document::calls::{Bound, Call, Listing, Runs, Said};
 use document::corpus;

@@ -1,4 +1,4 @@
-//! The module `stored`: records written and read, with the whole of the outputs. The places of the three arrays hold 7 before, the bytes EE.
+//! The program examples_records: records written and read, with the whole of the outputs. The places of the three arrays hold 7 before, the bytes EE.
 use crate::samples::{record, written};
 use crate::{arrays, ask, told};
 use document::calls::{Call, Runs, Said};

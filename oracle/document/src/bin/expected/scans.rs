@@ -1,4 +1,4 @@
-//! The modules `scanned` and `lending`: call sequences on a scan, a line a call, with the scan as it is afterwards.
+//! The program examples_scans: call sequences on a scan, a line a call, with the scan as it is afterwards.
 use crate::{arrays, c, d, far, told};
 use document::calls::{Call, Runs, Said, Scan, State};
 use document::corpus;

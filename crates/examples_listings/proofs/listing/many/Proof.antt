@@ -1,0 +1,55 @@
+-- `examples_listings::listing::many` lends parts that are there. Assumes nothing.
+use native.Mathlib.Omega.{arith}
+use lib.ListN.{length-take}
+use borrow.Author.Needs.{needs}
+use Rattle.examples_listings.proofs.listing.many.Statement.{statement}
+use Rattle.examples_listings.proofs.listing.many.Tie as tie
+
+array-share-prefix-from : tie.Need-array-share-prefix-from
+array-share-prefix-from c = search needs
+
+slice-aggregate-into : tie.Need-slice-aggregate-into
+slice-aggregate-into c = simp length-take (omega arith)
+
+array-share-prefix-to : tie.Need-array-share-prefix-to
+array-share-prefix-to c = search needs
+
+slice-aggregate-into-2 : tie.Need-slice-aggregate-into-2
+slice-aggregate-into-2 c = simp length-take (omega arith)
+
+none-requires : tie.Need-none-requires
+none-requires c κs = search needs
+
+none-requires-2 : tie.Need-none-requires-2
+none-requires-2 c κs = search needs
+
+slice-aggregate-into-3 : tie.Need-slice-aggregate-into-3
+slice-aggregate-into-3 c = search needs
+
+array-borrow-prefix-counts : tie.Need-array-borrow-prefix-counts
+array-borrow-prefix-counts c = search needs
+
+slice-aggregate-into-4 : tie.Need-slice-aggregate-into-4
+slice-aggregate-into-4 c = simp length-take (omega arith)
+
+into-requires : tie.Need-into-requires
+into-requires c κs = search needs
+
+returns : tie.Need-returns
+returns c = search needs
+
+pub many-spec : {M : Type 1} → statement M
+many-spec =
+    tie.close
+    (tie.spec
+    array-share-prefix-from
+    slice-aggregate-into
+    array-share-prefix-to
+    slice-aggregate-into-2
+    none-requires
+    none-requires-2
+    slice-aggregate-into-3
+    array-borrow-prefix-counts
+    slice-aggregate-into-4
+    into-requires
+    returns)
