@@ -15,13 +15,19 @@ text-requires : tie.Need-text-requires
 text-requires c κs = search needs
 
 slice-aggregate-check : tie.Need-slice-aggregate-check
-slice-aggregate-check c = simp length-take (omega (arith, c .before .before .before .before .before .before .if1 .taken))
+slice-aggregate-check c =
+    let back = c .before .before .before in
+    simp length-take (omega (arith, back .before .before .before .if1 .taken))
 
 slice-aggregate-check-2 : tie.Need-slice-aggregate-check-2
-slice-aggregate-check-2 c = simp length-take (omega (arith, c .before .before .before .before .before .before .if2 .taken))
+slice-aggregate-check-2 c =
+    let back = c .before .before .before in
+    simp length-take (omega (arith, back .before .before .before .if2 .taken))
 
 slice-aggregate-check-3 : tie.Need-slice-aggregate-check-3
-slice-aggregate-check-3 c = simp length-take (omega (arith, c .before .before .before .before .before .before .if3 .taken))
+slice-aggregate-check-3 c =
+    let back = c .before .before .before in
+    simp length-take (omega (arith, back .before .before .before .if3 .taken))
 
 check-requires : tie.Need-check-requires
 check-requires c κs = search needs

@@ -30,7 +30,10 @@ text-requires-3 : tie.Need-text-requires-3
 text-requires-3 c κs = search needs
 
 cast-signed : tie.Need-cast-signed
-cast-signed c = let s = c .before .before .before .before .before .before .before .before in rw (toZ-ofZ (s .fits .step)) (record { sfits = omega (arith, s .fits .step .sfits) })
+cast-signed c =
+    let back = c .before .before .before in
+    let further = back .before .before .before in
+    let s = further .before .before in rw (toZ-ofZ (s .fits .step)) (record { sfits = omega (arith, s .fits .step .sfits) })
 
 signed-requires-2 : tie.Need-signed-requires-2
 signed-requires-2 c κs = search needs

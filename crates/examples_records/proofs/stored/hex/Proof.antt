@@ -25,7 +25,9 @@ shared-slice-read-print-hex : tie.Need-shared-slice-read-print-hex Inv-loop μ-l
 shared-slice-read-print-hex c = search needs
 
 cast-print-hex : tie.Need-cast-print-hex Inv-loop μ-loop
-cast-print-hex c = omega (arith, c .shared-slice-known2 .given (c .before .before .before .before .loop .i))
+cast-print-hex c =
+    let back = c .before .before .before in
+    omega (arith, c .shared-slice-known2 .given (back .before .loop .i))
 
 print-hex-requires : tie.Need-print-hex-requires Inv-loop μ-loop
 print-hex-requires c κs = search needs
