@@ -105,9 +105,6 @@ def fact(says):
         return True
     if re.search(r"must be a path whose two ends are equal, and .* is none|this λ's body is `.*`, but the extension \(path\) type requires `", says):
         return True
-    terms = re.match(r'`([^`]*)`\s+≟ `([^`]*)`\s+does not hold', says)
-    if terms and 'Need-' not in says and not any(relation(side) in '→×⊎≡≤' for side in terms.groups()):  # two terms that should be equal
-        return True
     pair = re.search(r'expected type `(.*?)`,? but this has type `(.*?)`', says) or re.search(r'`([^`]*)` ≟ `([^`]*)` does not hold', says)
     if not pair or 'Need-' in pair[1] + pair[2]:
         return False
