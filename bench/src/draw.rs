@@ -44,7 +44,8 @@ fn picture(rows: &[Row]) -> Result<String, std::fmt::Error> {
         h = height + 20.0
     )?;
     writeln!(text, r#"<rect width="100%" height="100%" fill="white"/>"#)?;
-    writeln!(text, r#"<text x="12" y="18" font-size="13">The port's time divided by the Rust's: left of 1 the port is faster. Red line: target. Thin line: quartiles.</text>"#)?;
+    let title = "The port's time divided by the Rust's: left of 1 the port is faster. Red line: target. Thin line: quartiles.";
+    writeln!(text, r#"<text x="12" y="18" font-size="13">{title}</text>"#)?;
     for power in FROM as i32..=TO as i32 {
         let ratio = 10f64.powi(power);
         let (stroke, label) = (if power == 0 { "#222" } else { "#d5d9de" }, if power < 0 { format!("{ratio:.*}", -power as usize) } else { ratio.to_string() });

@@ -54,7 +54,7 @@ fn main() {
     listing::measure(&mut clock);
     checks::measure(&mut clock);
     calls::measure(&mut clock);
-        record::measure(&mut clock);
+    record::measure(&mut clock);
     let table = page::table(&clock);
     println!("{table}");
     if !clock.only.is_empty() {

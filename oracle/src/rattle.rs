@@ -47,7 +47,7 @@ fn sample(cases: usize, seed: u64, made_by: &str) -> Vec<(String, String)> {
         let kind = ["scan", "filter"][played.len() % 2];
         played.extend(case(&mut d, kind));
     }
-    let head = |what: &str| format!("// {what} Made by `{made_by}`; not written by hand.\n");
+    let head = |what: &str| format!("// {what}\n// Made by `{made_by}`; not written by hand.\n");
     let mut files = Vec::new();
     let mut main = head("A fixed sample of the Rust's answers, played again: what this writes must be what the Rust answered.");
     main.push_str("mod played;\n");

@@ -1,4 +1,5 @@
-// Calls of the sample. Made by `corpus --rattle crates/replayed --cases 4 --seed 562`; not written by hand.
+// Calls of the sample.
+// Made by `corpus --rattle crates/replayed --cases 4 --seed 562`; not written by hand.
 use crate::played::*;
 use shown::text;
 
