@@ -32,77 +32,75 @@ over : (s : tie.Start) {x : _} (j : _) → x ≡ s .args .target → j ≡ first
     → j ≡ firstNotBelow (seq s) (s .args .target) (s .args .scan .start) (s .args .scan .end)
 over s j is e = rw (is, s .pre .is-start, s .pre .is-end) at e
 
-enum-told : tie.Need-enum-told
-enum-told c = search needs
+-- the scan, and where its window's search ended
+abbrev start : tie.After-seek-spot → tie.Start
+start c = c .before .before
+
+whole : (c : tie.After-seek-spot) → let s = start c in c .seek-spot .result .index ≡ firstNotBelow (seq s) (s .args .target) (s .args .scan .start) (s .args .scan .end)
+whole c = over (start c) _ (toZ-ofZ (start c .fits .target)) (c .seek-spot .ensures .0)
+
+-- in the state that it is in
+stands : (s : tie.Start) (t : State) (j : _) → s .args .scan .state ≡ t → j ≡ firstNotBelow (seq s) (s .args .target) (standing (s .args .scan) t) (s .args .scan .end)
+    → j ≡ firstNotBelow (seq s) (s .args .target) (standing (s .args .scan) (s .args .scan .state)) (s .args .scan .end)
+stands s t j is e = e ∙ ap (λ (t : State). firstNotBelow (seq s) (s .args .target) (standing (s .args .scan) t) (s .args .scan .end)) (sym is)
 
 seek-spot-requires : tie.Need-seek-spot-requires
-seek-spot-requires c κs = let s = c .before .before .before in (s .pre .whole, (within s, (climbs s, s .pre .lies)))
+seek-spot-requires c κs = let s = c .before in (s .pre .whole, (within s, (climbs s, s .pre .lies)))
+
+enum-told : tie.Need-enum-told
+enum-told c = search needs
 
 enum-known-state : tie.Need-enum-known-state
 enum-known-state c = search needs
 
-seek-spot-requires-2 : tie.Need-seek-spot-requires-2
-seek-spot-requires-2 c κs =
-    let at-slice = c .before .before .before in
-    let s = at-slice .before in
-    (s .pre .whole, (within s, (climbs s, s .pre .lies)))
-
 place-in-requires : tie.Need-place-in-requires
 place-in-requires c κs =
-    let at-known-told = c .before .before .before in
-    let at-slice = at-known-told .before .before .before in
-    sound-parts _ (at-slice .before .pre .whole) .up
+    let at-state = c .before .before .before in
+    sound-parts _ (start (at-state .before .before) .pre .whole) .up
 
 returns : tie.Need-returns
 returns c =
-    let at-seek = c .before .before .before in
-    let at-state = at-seek .before .before in
-    let s = at-state .before .before .before in
-    let is = at-state .state .given .1 in
-    let here = seek-stays (seq s) (s .args .target) _ _ _ (index-from _ (s .args .scan) (s .pre .good) _ is) (index-below _ (s .args .scan) (s .pre .good) _ is) _
-    (over s _ (toZ-ofZ (s .fits .target)) (at-seek .seek-spot2 .ensures .0)) (s .pre .rising) (c .before .if1 .taken) in
-    (here ∙ ap (λ (t : State). firstNotBelow (seq s) (s .args .target) (standing (s .args .scan) t) (s .args .scan .end)) (sym is), λ _. c .place-in .ensures)
+    let at-then = c .before in
+    let at-state = at-then .before .before .before in
+    let o = at-state .before .before in
+    let s = start o in
+    let is = at-state .state .given .1 in (
+      stands s _ _ is (seek-stays (seq s) (s .args .target) _ _ _ (index-from _ (s .args .scan) (s .pre .good) _ is) (index-below _ (s .args .scan) (s .pre .good) _ is) _ (whole o) (s .pre .rising) (at-then .if1 .taken)),
+      λ _. c .place-in .ensures,
+    )
 
 enum-told-2 : tie.Need-enum-told-2
 enum-told-2 c = search needs
 
 returns-2 : tie.Need-returns-2
 returns-2 c =
-    let s = c .before .before .before .before in
-    let is = c .before .enum-told .given .1 in (
-      over s _ (toZ-ofZ (s .fits .target)) (c .seek-spot .ensures .0) ∙ ap (λ (t : State). firstNotBelow (seq s) (s .args .target) (standing (s .args .scan) t) (s .args .scan .end)) (sym is),
-      λ l. c .seek-spot .ensures .1 (rw (← s .pre .is-end) at l),
-    )
+    let o = c .before .before in
+    let s = start o in
+    (stands s _ _ (c .enum-told .given .1) (whole o), λ l. o .seek-spot .ensures .1 (rw (← s .pre .is-end) at l))
 
 returns-3 : tie.Need-returns-3
 returns-3 c =
-    let at-seek = c .before .before in
-    let at-state = at-seek .before .before in
-    let s = at-state .before .before .before in
-    let is = at-state .state .given .1 in
-    let here = seek-later (seq s) (s .args .target) _ _ _ (index-from _ (s .args .scan) (s .pre .good) _ is) (index-below _ (s .args .scan) (s .pre .good) _ is) _
-    (over s _ (toZ-ofZ (s .fits .target)) (at-seek .seek-spot2 .ensures .0)) (c .if1 .left) in (
-      here ∙ ap (λ (t : State). firstNotBelow (seq s) (s .args .target) (standing (s .args .scan) t) (s .args .scan .end)) (sym is),
-      λ l. at-seek .seek-spot2 .ensures .1 (rw (← s .pre .is-end) at l),
+    let at-state = c .before .before .before in
+    let o = at-state .before .before in
+    let s = start o in
+    let is = at-state .state .given .1 in (
+      stands s _ _ is (seek-later (seq s) (s .args .target) _ _ _ (index-from _ (s .args .scan) (s .pre .good) _ is) (index-below _ (s .args .scan) (s .pre .good) _ is) _ (whole o) (c .if1 .left)),
+      λ l. o .seek-spot .ensures .1 (rw (← s .pre .is-end) at l),
     )
 
 returns-4 : tie.Need-returns-4
 returns-4 c =
-    let at-enum-told = c .before .before in
-    let s = at-enum-told .before .before .before in
-    let is = at-enum-told .enum-told2 .given .1 in (
-      seek-none (seq s) (s .args .target) _ _ (le-refl _) ∙ ap (λ (t : State). firstNotBelow (seq s) (s .args .target) (standing (s .args .scan) t) (s .args .scan .end)) (sym is),
-      λ l. absurd (omega arith),
-    )
+    let at-told = c .before in
+    let s = start (at-told .before .before) in
+    (stands s _ _ (at-told .enum-told2 .given .1) (seek-none (seq s) (s .args .target) _ _ (le-refl _)), λ l. absurd (omega arith))
 
 pub sought-spec : {M : Type 1} → statement M
 sought-spec =
     tie.close
     (tie.spec
-    enum-told
     seek-spot-requires
+    enum-told
     enum-known-state
-    seek-spot-requires-2
     place-in-requires
     returns
     enum-told-2
