@@ -1,6 +1,6 @@
 -- Columns and windows: each index lies in one run, every element fits, short windows rise. Assumes nothing.
 use Prim.Native.Nat.{ℕ, zero, suc, _-_, _<_, _≤_}
-use mathlib.Core.Path.{_≡_, sym, _∙_}
+use mathlib.Core.Path.{_≡_, refl, sym, ap, _∙_}
 use mathlib.Core.Bool.{Bool, true, false, cond}
 use mathlib.Core.List.{List, [], _∷_}
 use mathlib.Core.Logic.{_↔_, ⊎-elim, Iff·rfl}
@@ -20,12 +20,13 @@ use Rattle.keys.specs.Widths.{fitsIn, half64}
 use Rattle.keys.proofs.Widths.{in-mag}
 use Rattle.meaning.specs.Refusals.{Said, fine, Gives, Number, tried}
 use Rattle.meaning.specs.Sequence.{Sequence, inWindow, rises}
-use Rattle.meaning.specs.Column.{Column, startOf, endOf, stepOf, endBefore, runs, sizeOf, offset, runOf, offsetOf, elementAt, shapeOk, endsOk, runOk, reachOk, sound, sourceOf}
-use Rattle.meaning.specs.Calls.{Place, checkOf, placeOf}
+use Rattle.meaning.specs.Column.{Column, startOf, endOf, stepOf, endBefore, runs, sizeOf, offset, runOf, offsetOf, placeAt, elementAt, shapeOk, endsOk, runOk, reachOk, sound, sourceOf}
+use Rattle.meaning.specs.Calls.{checkOf, placeOf}
 use Rattle.loftsplice.specs.declared.scan.State.the-variants.{Fresh, Ended}
 use Rattle.loftsplice.specs.Scan.{fresh, put, goTo, nextFrom}
-use Rattle.meaning.proofs.Judging.{passed, passes-first, passes-sound, sound-passes}
-use Rattle.meaning.proofs.Calls.{check-fine}
+use Rattle.meaning.proofs.Judging.{passed, passes-sound, sound-passes}
+use Rattle.meaning.proofs.Calls.{check-fine, place-at}
+use Rattle.meaning.proofs.Places.{place-past}
 use Rattle.meaning.proofs.Runs.{end-le-before, run-above, run-from, run-there, run-in, run-past}
 use Rattle.meaning.proofs.Soundness.{shape-parts, ends-rise, run-fits}
 
@@ -50,9 +51,15 @@ module _ (c : Column) (ok : endsOk (c .ends) ≡ true) where
   pub offset-below : (i : ℕ) → i < sizeOf c → offsetOf (c .ends) i < endOf c (runOf (c .ends) i) - endBefore (c .ends) (runOf (c .ends) i)
   offset-below i l = let h = in-one-run i l .0 in omega arith
 
-  -- "Index equal to length has the place (run count, 0)."
-  pub length-place : (runOf (c .ends) (sizeOf c) ≡ runs c) × (offsetOf (c .ends) (sizeOf c) ≡ 0)
-  length-place = let e : runs c ≡ runOf (c .ends) (sizeOf c) = run-past (c .ends) (sizeOf c) (ends-rise (c .ends) ok) (le-refl _) in (sym e, rw (sym e) (omega arith))
+  -- "Index equal to length has the place (run count, 0)."; "for the index equal to length that number is 0"
+  pub length-place : placeAt (c .ends) (sizeOf c) ≡ record { run = runs c; offset = 0; follows = 0 }
+  length-place = sym (ap (λ k. record { run = runs c; offset = k; follows = 0 }) none ∙ place-past (c .ends) (sizeOf c) (runs c) (sizeOf c) past refl refl)
+    where
+      past : runs c ≡ runOf (c .ends) (sizeOf c)
+      past = run-past (c .ends) (sizeOf c) (ends-rise (c .ends) ok) (le-refl _)
+
+      none : 0 ≡ sizeOf c - sizeOf c
+      none = omega arith
 
   -- the element at an index, by the run that it lies in
   pub element-in : (i r : ℕ) → InRun c i r → elementAt c i ≡ offset (startOf c r) (stepOf c r) (i - endBefore (c .ends) r)
@@ -60,12 +67,8 @@ module _ (c : Column) (ok : endsOk (c .ends) ≡ true) where
   element-in i r h = rw (sym (run-in (c .ends) i (ends-rise (c .ends) ok) r (omega arith) (h .1) (λ _. h .2)))
 
 -- what place answers there
-pub length-placed : (c : Column) → sound c ≡ true → placeOf c (sizeOf c) ≡ Gives (record { run = runs c; offset = 0 })
-unfolding placeOf tried
-length-placed c ok =
-    let here = length-place c (sound-tests c .0 ok .1) in
-    let rest : Said Place = cond (ltb (sizeOf c) (sizeOf c)) (Number 4) (Gives (record { run = runOf (c .ends) (sizeOf c); offset = offsetOf (c .ends) (sizeOf c) })) in
-    sym (passes-first (sourceOf c) Number rest (sound-passes c ok)) ∙ rw (le-ltb (sizeOf c) (sizeOf c) (le-refl _), here .1, here .0)
+pub length-placed : (c : Column) → sound c ≡ true → placeOf c (sizeOf c) ≡ Gives (record { run = runs c; offset = 0; follows = 0 })
+length-placed c ok = sym (place-at c (sound-passes c ok) (sizeOf c) _ (le-refl _) (sym (length-place c (sound-tests c .0 ok .1))))
 
 -- ---- elements
 

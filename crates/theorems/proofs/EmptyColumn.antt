@@ -58,8 +58,8 @@ pub empty-is-empty : isEmptyOf nowhere ≡ Gives true
 unfolding isEmptyOf tried shapeOk endsOk reachOk allFor endBefore
 empty-is-empty = refl
 
--- "Index equal to length has the place (run count, 0)": here (0, 0), and no other index has one
-pub empty-place : placeOf empty 0 ≡ Gives (record { run = 0; offset = 0 })
+-- "Index equal to length has the place (run count, 0)", and nothing follows: here (0, 0, 0), and no other index has one
+pub empty-place : placeOf empty 0 ≡ Gives (record { run = 0; offset = 0; follows = 0 })
 unfolding placeOf tried shapeOk endsOk reachOk allFor endBefore runOf firstFor
 empty-place = refl
 

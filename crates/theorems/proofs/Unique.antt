@@ -65,7 +65,7 @@ emptiness-apart = undone saysEmptiness (answering (elim [ true ↦ Empty | false
     (elim [ Empty ↦ refl | Held ↦ refl | EmptinessRefused w ↦ ap EmptinessRefused (refusal-is w) ])
 
 pub placed-apart : Injective saysPlaced
-placed-apart = undone saysPlaced (answering (λ x. PlacedAt (x .run) (x .offset)) PlacedRefused) (elim [ PlacedAt r k ↦ refl | PlacedRefused w ↦ ap PlacedRefused (refusal-is w) ])
+placed-apart = undone saysPlaced (answering PlacedAt PlacedRefused) (elim [ PlacedAt p ↦ refl | PlacedRefused w ↦ ap PlacedRefused (refusal-is w) ])
 
 pub got-apart : Injective saysGot
 got-apart = undone saysGot (answering GotValue GotRefused) (elim [ GotValue v ↦ refl | GotRefused w ↦ ap GotRefused (refusal-is w) ])

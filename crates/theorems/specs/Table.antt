@@ -7,7 +7,8 @@ use lib.IntN.{ℤ, pos, negsuc}
 use Rattle.meaning.specs.Refusals.{Word, fine, Said, Gives, Number}
 use Rattle.meaning.specs.Sequence.{Source}
 use Rattle.meaning.specs.Column.{Column, columnOf, sizeOf, sourceOf}
-use Rattle.meaning.specs.Calls.{Place, diffStepOf, checkOf, placeOf, getOf}
+use Rattle.meaning.specs.declared.Place.{Place}
+use Rattle.meaning.specs.Calls.{diffStepOf, checkOf, placeOf, getOf}
 use Rattle.loftsplice.specs.Listing.{Batch, listOf, outAfter, countsAfter}
 use Rattle.loftsplice.specs.declared.scan.Move.the-variants.{Next, Seek}
 use Rattle.loftsplice.specs.declared.scan.Move.{Move}
@@ -211,9 +212,9 @@ table =
     P 1 (element (getOf (sourceOf C) 3)) (element (Gives (pos 25)))
     ∷ P 1 (element (getOf (sourceOf C) 8)) (element (Gives (pos 240)))
     ∷ P 1 (element (getOf (sourceOf C) 9)) (element (Number 4))
-    -- "place of 4 in C is (1,0), of 9 is (4,0); of 10 refused 4."
-    ∷ P 2 (placed (placeOf C 4)) (placed (Gives (record { run = 1; offset = 0 })))
-    ∷ P 2 (placed (placeOf C 9)) (placed (Gives (record { run = 4; offset = 0 })))
+    -- "place of 4 in C is (1,0), of 9 is (4,0); of 10 refused 4.": "P2 gains the numbers 1 for index 4 and 0 for index 9."
+    ∷ P 2 (placed (placeOf C 4)) (placed (Gives (record { run = 1; offset = 0; follows = 1 })))
+    ∷ P 2 (placed (placeOf C 9)) (placed (Gives (record { run = 4; offset = 0; follows = 0 })))
     ∷ P 2 (placed (placeOf C 10)) (placed (Number 4))
     -- "fresh on C, seek 16: 20, index 2."
     ∷ P 3 (scan C (seek 16 ∷ [])) (scanned (values (20 ∷ [])) (index 2))
