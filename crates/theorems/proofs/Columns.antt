@@ -1,7 +1,7 @@
 -- Columns and windows: each index lies in one run, every element fits, short windows rise. Assumes nothing.
 use Prim.Native.Nat.{ℕ, zero, suc, _-_, _<_, _≤_}
 use mathlib.Core.Path.{_≡_, refl, sym, ap, _∙_}
-use mathlib.Core.Bool.{Bool, true, false, cond}
+use mathlib.Core.Bool.{Bool, true, false}
 use mathlib.Core.List.{List, [], _∷_}
 use mathlib.Core.Logic.{_↔_, ⊎-elim, Iff·rfl}
 use mathlib.Core.Option.{none}
@@ -18,7 +18,7 @@ use Rattle.ranges.proofs.Spans.{in-all, all-in, lt-or-ge}
 use Rattle.ranges.proofs.Reading.{reading}
 use Rattle.keys.specs.Widths.{fitsIn, half64}
 use Rattle.keys.proofs.Widths.{in-mag}
-use Rattle.meaning.specs.Refusals.{Said, fine, Gives, Number, tried}
+use Rattle.meaning.specs.Refusals.{fine, Gives, tried}
 use Rattle.meaning.specs.Sequence.{Sequence, inWindow, rises}
 use Rattle.meaning.specs.Column.{Column, startOf, endOf, stepOf, endBefore, runs, sizeOf, offset, runOf, offsetOf, placeAt, elementAt, shapeOk, endsOk, runOk, reachOk, sound, sourceOf}
 use Rattle.meaning.specs.Calls.{checkOf, placeOf}
@@ -30,7 +30,7 @@ use Rattle.meaning.proofs.Places.{place-past}
 use Rattle.meaning.proofs.Runs.{end-le-before, run-above, run-from, run-there, run-in, run-past}
 use Rattle.meaning.proofs.Soundness.{shape-parts, ends-rise, run-fits}
 
-sound-tests : (c : Column) → (sound c ≡ true) ↔ ((shapeOk c ≡ true) × (endsOk (c .ends) ≡ true) × (reachOk half64 c ≡ true))
+pub sound-tests : (c : Column) → (sound c ≡ true) ↔ ((shapeOk c ≡ true) × (endsOk (c .ends) ≡ true) × (reachOk half64 c ≡ true))
 unfolding sound
 sound-tests c = simp reading Iff·rfl
 

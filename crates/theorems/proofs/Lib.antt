@@ -24,6 +24,7 @@ pub mod Refused
 pub mod Reset
 pub mod Each
 pub mod EmptyColumn
+pub mod Places
 pub mod FilterStates
 pub mod BoundComments
 pub mod StepComments

@@ -8,3 +8,4 @@ pub mod Answered
 pub mod Resets
 pub mod Comments
 pub mod Empty
+pub mod Places

@@ -14,6 +14,7 @@
 //   Resets        calls on a filter, resets among them: the filter that they leave, and its initial state
 //   Comments      what the Rust's doc comments on filters and steps come to
 //   Empty         the empty column
+//   Places        a walk through a column from place to place
 //
 // The theorems, proofs/:
 //   Demand3       a run of accepted calls answers what is expected; none stays; next alone lists; any run, refused calls among them
@@ -37,6 +38,7 @@
 //   Reset         a filter's reset after any calls: a new filter on the scan as it stands
 //   EmptyColumn   the empty column, call by call
 //   Columns       each index lies in one run, every element fits, short windows rise
+//   Places        what a place tells of the elements that follow; a walk from place to place meets each run once and ends at the length
 //   Bounds        the folded bound is met exactly if every bound is, but for a tie
 //
 // What stands behind them, proofs/:
