@@ -4,7 +4,7 @@ use mathlib.Core.Bool.{Bool, false}
 use mathlib.Core.Option.{Option, some}
 use lib.IntN.{ℤ, pos}
 use Rattle.meaning.specs.Refusals.{Said, Gives, Number}
-use Rattle.meaning.specs.Calls.{Place}
+use Rattle.meaning.specs.declared.Place.{Place}
 use Rattle.c_column.specs.declared.FlatLength.{FlatLength}
 use Rattle.c_column.specs.declared.FlatEmptiness.{FlatEmptiness}
 use Rattle.c_column.specs.declared.FlatPlace.{FlatPlace}
@@ -19,12 +19,12 @@ flatLength s = record { refusal = refusalIn s; length = givenOr 0 s }
 abbrev pub flatEmptiness : Said Bool → FlatEmptiness
 flatEmptiness s = record { refusal = refusalIn s; empty = bit (givenOr false s) }
 
--- .., and run and offset, or 0 and 0
+-- .., and run, offset and the number that follows, or 0 each
 abbrev pub noPlace : Place
-noPlace = record { run = 0; offset = 0 }
+noPlace = record { run = 0; offset = 0; follows = 0 }
 
 abbrev pub flatPlace : Said Place → FlatPlace
-flatPlace s = record { refusal = refusalIn s; run = givenOr noPlace s .run; offset = givenOr noPlace s .offset }
+flatPlace s = record { refusal = refusalIn s; run = givenOr noPlace s .run; offset = givenOr noPlace s .offset; follows = givenOr noPlace s .follows }
 
 -- 1 and the step, or 0 and 0
 abbrev pub flatDifference : Option ℤ → FlatDifference

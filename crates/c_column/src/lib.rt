@@ -35,12 +35,13 @@ pub struct FlatEmptiness {
     pub empty: u32,
 }
 
-// A refusal's number or 0, and where an index lies.
+// A refusal's number or 0, and where an index lies: its run, its offset there, and how many elements follow from it on to the end of the run.
 #[repr(C)]
 pub struct FlatPlace {
     pub refusal: u32,
     pub run: u64,
     pub offset: u64,
+    pub follows: u64,
 }
 
 // 1 and a step, or 0.
@@ -111,15 +112,17 @@ pub extern "C" fn loftsplice_place(
 {
     let answer = place(starts, ends, steps, index);
     match answer {
-        Placed::At(run, offset) => FlatPlace {
+        Placed::At(at) => FlatPlace {
             refusal: 0,
-            run: run as u64,
-            offset,
+            run: at.run as u64,
+            offset: at.offset,
+            follows: at.follows,
         },
         Placed::Refused(why) => FlatPlace {
             refusal: number(why),
             run: 0,
             offset: 0,
+            follows: 0,
         },
     }
 }
