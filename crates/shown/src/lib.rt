@@ -70,11 +70,13 @@ pub fn emptiness(e: Emptiness) {
 
 pub fn placed(p: Placed) {
     match p {
-        Placed::At(run, offset) => {
+        Placed::At(at) => {
             text(b"(");
-            unsigned(run as u64);
+            unsigned(at.run as u64);
             text(b",");
-            unsigned(offset);
+            unsigned(at.offset);
+            text(b",");
+            unsigned(at.follows);
             text(b")");
         }
         Placed::Refused(why) => refused(why),
