@@ -85,11 +85,12 @@ typedef struct loftsplice_emptiness {
     uint32_t empty;
 } loftsplice_emptiness;
 
-/* The run that an index lies in, from 0, and its offset there. */
+/* The run that an index lies in, from 0, its offset there, and how many elements there are from that index to the end of the run. */
 typedef struct loftsplice_placed {
     uint32_t refusal;
     uint64_t run;
     uint64_t offset;
+    uint64_t follows;
 } loftsplice_placed;
 
 /* found 1 and the step, or found 0: there is none. */
@@ -173,7 +174,7 @@ loftsplice_length loftsplice_len(const int64_t *starts, size_t starts_len, const
 loftsplice_emptiness loftsplice_is_empty(const int64_t *starts, size_t starts_len, const uint64_t *ends, size_t ends_len, const int16_t *steps,
     size_t steps_len);
 
-/* The run and offset of an index, (run count, 0) for the length; or refused 1, 2, 3, 4. */
+/* The place of an index, (run count, 0, 0) for the length; or refused 1, 2, 3, 4. */
 loftsplice_placed loftsplice_place(const int64_t *starts, size_t starts_len, const uint64_t *ends, size_t ends_len, const int16_t *steps,
     size_t steps_len, uint64_t index);
 

@@ -177,15 +177,25 @@ static void columns(void) {
 
     /* P2 */
     loftsplice_placed p = loftsplice_place(LISTS(C), 4);
-    SAME(p.refusal, 0), SAME(p.run, 1), SAME(p.offset, 0);
+    SAME(p.refusal, 0), SAME(p.run, 1), SAME(p.offset, 0), SAME(p.follows, 1);
     p = loftsplice_place(LISTS(C), 8);
-    SAME(p.refusal, 0), SAME(p.run, 3), SAME(p.offset, 2);
+    SAME(p.refusal, 0), SAME(p.run, 3), SAME(p.offset, 2), SAME(p.follows, 1);
     p = loftsplice_place(LISTS(C), 9);
-    SAME(p.refusal, 0), SAME(p.run, 4), SAME(p.offset, 0);
+    SAME(p.refusal, 0), SAME(p.run, 4), SAME(p.offset, 0), SAME(p.follows, 0);
     p = loftsplice_place(LISTS(C), 10);
-    SAME(p.refusal, LOFTSPLICE_INDEX), SAME(p.run, 0), SAME(p.offset, 0);
+    SAME(p.refusal, LOFTSPLICE_INDEX), SAME(p.run, 0), SAME(p.offset, 0), SAME(p.follows, 0);
     p = loftsplice_place(LISTS(uneven), 10);
-    SAME(p.refusal, LOFTSPLICE_SHAPE), SAME(p.run, 0), SAME(p.offset, 0);
+    SAME(p.refusal, LOFTSPLICE_SHAPE), SAME(p.run, 0), SAME(p.offset, 0), SAME(p.follows, 0);
+    p = loftsplice_place(LISTS(none), 0);
+    SAME(p.refusal, 0), SAME(p.run, 0), SAME(p.offset, 0), SAME(p.follows, 0);
+    /* from 0 by what follows: each run once, in order, to the length */
+    uint64_t at = 0;
+    for (uint64_t run = 0; run < 4; run++) {
+        p = loftsplice_place(LISTS(C), at);
+        SAME(p.refusal, 0), SAME(p.run, run), SAME(p.offset, 0);
+        at += p.follows;
+    }
+    SAME(at, 9);
 
     /* P1 */
     VALUE(loftsplice_get(LISTS(C), 3), 25);

@@ -18,13 +18,13 @@ pub struct Column<'a> {
     steps: &'a [i16],
 }
 
-/// Where an index lies: the run, from 0, and the offset in it.
+/// Where an index lies: the run, from 0, the offset in it, and how many elements follow.
 ///
 /// ```
 /// use loftsplice::{Column, Place};
 ///
-/// let column = Column::new(&[10, 6], &[2, 5], &[-5, 1])?;
-/// assert_eq!(column.place(3)?, Place { run: 1, offset: 1 });
+/// let column = Column::new(&[10, 6], &[2, 5], &[-5, 1])?; // 10 5, 6 7 8
+/// assert_eq!(column.place(3)?, Place { run: 1, offset: 1, follows: 2 });
 /// # Ok::<(), loftsplice::Refusal>(())
 /// ```
 #[derive(Clone, Copy, Debug, PartialEq, Eq)]
@@ -33,6 +33,8 @@ pub struct Place {
     pub run: usize,
     /// The offset in it.
     pub offset: u64,
+    /// The number of elements from the index to the end of the run, its own among them; 0 for the length alone.
+    pub follows: u64,
 }
 
 impl<'a> Column<'a> {
@@ -118,14 +120,23 @@ impl<'a> Column<'a> {
         raw::is_empty(self.starts, self.ends, self.steps).empty == 1
     }
 
-    /// The place of an index, (run count, 0) for the length; or refused [`Refusal::Index`].
+    /// The place of an index, (run count, 0, 0) for the length; or refused [`Refusal::Index`].
     ///
     /// ```
     /// use loftsplice::{Column, Place, Refusal};
     ///
     /// let column = Column::new(&[7, 9], &[2, 10], &[1, 0])?;
-    /// assert_eq!(column.place(10)?, Place { run: 2, offset: 0 });
+    /// assert_eq!(column.place(10)?, Place { run: 2, offset: 0, follows: 0 });
     /// assert_eq!(column.place(11).unwrap_err(), Refusal::Index);
+    ///
+    /// // from stretch to stretch: each run once
+    /// let (mut index, mut stretches) = (0, Vec::new());
+    /// while index < column.len() {
+    ///     let place = column.place(index)?;
+    ///     stretches.push((place.run, index..index + place.follows));
+    ///     index += place.follows;
+    /// }
+    /// assert_eq!(stretches, [(0, 0..2), (1, 2..10)]);
     /// # Ok::<(), Refusal>(())
     /// ```
     pub fn place(&self, index: u64) -> Result<Place, Refusal> {
@@ -135,6 +146,7 @@ impl<'a> Column<'a> {
             Place {
                 run: place.run as usize,
                 offset: place.offset,
+                follows: place.follows,
             },
         )
     }

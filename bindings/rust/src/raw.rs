@@ -105,7 +105,7 @@ pub struct Emptiness {
     pub empty: u32,
 }
 
-/// The run that an index lies in, from 0, and its offset there.
+/// The run that an index lies in, from 0, its offset there, and how many elements there are from that index to the end of the run.
 #[repr(C)]
 #[derive(Clone, Copy, Debug, PartialEq, Eq)]
 pub struct Place {
@@ -115,6 +115,8 @@ pub struct Place {
     pub run: u64,
     /// The offset in it.
     pub offset: u64,
+    /// The number of elements from the index to the end of the run; 0 for the length.
+    pub follows: u64,
 }
 
 /// `found` 1 and the step, or 0: there is none.

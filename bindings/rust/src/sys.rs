@@ -290,12 +290,12 @@ pub fn is_empty(starts: &[i64], ends: &[u64], steps: &[i16]) -> Emptiness {
     }
 }
 
-/// The run and offset of an index, (run count, 0) for the length; or refused 1, 2, 3, 4.
+/// The place of an index, (run count, 0, 0) for the length; or refused 1, 2, 3, 4.
 ///
 /// ```
 /// use loftsplice::raw;
 ///
-/// assert_eq!(raw::place(&[10, 30], &[4, 5], &[5, 0], 3), raw::Place { refusal: 0, run: 0, offset: 3 });
+/// assert_eq!(raw::place(&[10, 30], &[4, 5], &[5, 0], 3), raw::Place { refusal: 0, run: 0, offset: 3, follows: 1 });
 /// assert_eq!(raw::place(&[10, 30], &[4, 5], &[5, 0], 6).refusal, 4);
 /// ```
 pub fn place(starts: &[i64], ends: &[u64], steps: &[i16], index: u64) -> Place {

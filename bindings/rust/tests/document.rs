@@ -23,8 +23,8 @@ fn p1_p2_elements_and_places() {
         (c.get(3), c.get(8), c.get(9)),
         (Ok(25), Ok(240), Err(Refusal::Index))
     );
-    assert_eq!(c.place(4), Ok(Place { run: 1, offset: 0 }));
-    assert_eq!(c.place(9), Ok(Place { run: 4, offset: 0 }));
+    assert_eq!(c.place(4), Ok(Place { run: 1, offset: 0, follows: 1 }));
+    assert_eq!(c.place(9), Ok(Place { run: 4, offset: 0, follows: 0 }));
     assert_eq!(c.place(10), Err(Refusal::Index));
 }
 
