@@ -302,7 +302,7 @@ fn inside_differs(column: &model::Column, session: &rust::Session, m: &model::Se
     let inside = session.inside();
     let length = column.check().expect("the Rust plays on sound columns");
     // Beyond the column the Rust counts on: run count, and what is over.
-    let place = |i: u64| column.place(i).unwrap_or_else(|_| (column.runs.ends.len() as u64, i - length));
+    let place = |i: u64| column.place(i).map_or_else(|_| (column.runs.ends.len() as u64, i - length), |(run, offset, _)| (run, offset));
     let mut bad = Vec::new();
     let mut hold = |what: &str, holds: bool| {
         if !holds {
@@ -380,7 +380,9 @@ pub fn rust_alone(bench: &mut Bench, call: &Call, said: &Said) -> Option<Result<
         })),
         Call::Place(i) => Some(caught(|| {
             let (run, offset) = column.place(*i);
-            Said::Place(run, offset)
+            let Said::Place(_, _, follows) = said else { panic!("no place: {said}") };
+            assert!(reaches(column, *i, run, *follows), "the Rust's places do not bear out that {follows} follow");
+            Said::Place(run, offset, *follows)
         })),
         Call::Element(i) => Some(caught(|| Said::Value(column.get(*i)))),
         Call::List(l) => {
@@ -393,6 +395,12 @@ pub fn rust_alone(bench: &mut Bench, call: &Call, said: &Said) -> Option<Result<
         }
         _ => None,
     }
+}
+
+/// Whether so many elements follow in the run of an index, by the Rust's places of two other indices; it has no such number of its own.
+fn reaches(column: &rust::Column, i: u64, run: u64, follows: u64) -> bool {
+    let end = i + follows;
+    if follows == 0 { i == column.len() } else { column.place(end - 1).0 == run && column.place(end) == (run + 1, 0) }
 }
 
 /// A listing by the Rust: its filter over its scan, window by window.

@@ -167,7 +167,7 @@ impl Session {
             Call::Check => checked(starts, ends, steps),
             Call::Place(i) => {
                 let p = raw::place(starts, ends, steps, *i);
-                if p.refusal == 0 { Said::Place(p.run, p.offset) } else { Said::Refused(p.refusal) }
+                if p.refusal == 0 { Said::Place(p.run, p.offset, p.follows) } else { Said::Refused(p.refusal) }
             }
             Call::Element(i) => answer(raw::get(starts, ends, steps, *i)),
             Call::Diff(previous, current) => {

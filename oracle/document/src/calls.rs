@@ -91,7 +91,7 @@ pub enum Said {
     Ok,
     Refused(u32),
     Length(u64),
-    Place(u64, u64),
+    Place(u64, u64, u64),
     Listed { sum: u64, counts: Vec<u64>, out: Vec<i64> },
     Read { used: u64, runs: Runs },
     Written(Vec<u8>),

@@ -109,7 +109,7 @@ impl Display for Said {
             Said::Ok => f.write_str("ok"),
             Said::Refused(n) => write!(f, "r {n}"),
             Said::Length(n) => write!(f, "length {n}"),
-            Said::Place(r, k) => write!(f, "p {r} {k}"),
+            Said::Place(r, k, n) => write!(f, "p {r} {k} {n}"),
             Said::Listed { sum, counts, out } => write!(f, "sum {sum} counts {} out {}", list(counts), list(out)),
             Said::Read { used, runs } => write!(
                 f,
@@ -249,7 +249,7 @@ fn said(text: &str) -> Parsed<Said> {
         ["ok"] => Said::Ok,
         ["r", n] => Said::Refused(number(n)?),
         ["length", n] => Said::Length(number(n)?),
-        ["p", r, k] => Said::Place(number(r)?, number(k)?),
+        ["p", r, k, n] => Said::Place(number(r)?, number(k)?, number(n)?),
         ["sum", n, "counts", c, "out", o] => {
             Said::Listed { sum: number(n)?, counts: items(c, number)?, out: items(o, number)? }
         }

@@ -71,10 +71,12 @@ impl<'a> Column<'a> {
         i64::try_from(self.in_run(r, k)).expect("REACH was tried")
     }
 
-    pub fn place(&self, i: u64) -> Outcome<(u64, u64)> {
+    /// Document 02: "run, offset and the number of elements from that index to the end of the run; for the index equal to length that number is 0."
+    pub fn place(&self, i: u64) -> Outcome<(u64, u64, u64)> {
         refuse_if(i > self.check?, INDEX)?;
         let (r, k) = self.place_of(i);
-        Ok((r as u64, k))
+        let follows = self.runs.ends.get(r).map_or(0, |end| end - i);
+        Ok((r as u64, k, follows))
     }
 
     pub fn element(&self, i: u64) -> Outcome<i64> {
@@ -256,8 +258,8 @@ impl<'a> Session<'a> {
             }
             Call::Check => Said::Length(self.column.check?),
             Call::Place(i) => {
-                let (r, k) = self.column.place(*i)?;
-                Said::Place(r, k)
+                let (r, k, n) = self.column.place(*i)?;
+                Said::Place(r, k, n)
             }
             Call::Element(i) => Said::Value(self.column.element(*i)?),
             Call::Diff(previous, current) => said(diff_step(*previous, *current).map(i64::from)),

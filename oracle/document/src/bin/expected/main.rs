@@ -104,7 +104,7 @@ fn told(said: &Said) -> String {
         Said::None | Said::Ok => "none".into(),
         Said::Value(v) => v.to_string(),
         Said::Index(n) | Said::Length(n) => n.to_string(),
-        Said::Place(run, offset) => format!("({run},{offset})"),
+        Said::Place(run, offset, follows) => format!("({run},{offset},{follows})"),
         other => unreachable!("{other} is written elsewhere"),
     }
 }
