@@ -14,13 +14,13 @@ fn differences(text: &str) -> Vec<String> {
     found
 }
 
-/// P1 to P12, with every side that is there.
+/// P1 to P12 and document 02's places, with every side that is there.
 #[test]
-fn examples_of_document_01() {
+fn examples_of_the_documents() {
     let cases = corpus::cases(EXAMPLES).expect("the examples");
-    assert_eq!(cases.len(), 19);
+    assert_eq!(cases.len(), 23);
     let lines: usize = cases.iter().map(|c| c.lines.len()).sum();
-    assert_eq!(lines, 62);
+    assert_eq!(lines, 76);
     assert_eq!(differences(EXAMPLES), Vec::<String>::new());
 }
 
