@@ -10,7 +10,7 @@ enum-told : tie.Need-enum-told
 enum-told c = search needs
 
 next-in-requires : tie.Need-next-in-requires
-next-in-requires c κs = let s = c .before .before .before in (s .pre .whole, s .pre .good)
+next-in-requires c κs = let s = c .before .before .before in (s .pre .0 .whole, (s .pre .0 .good, s .pre .1))
 
 enum-known-step : tie.Need-enum-known-step
 enum-known-step c = search needs
