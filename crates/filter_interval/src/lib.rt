@@ -113,13 +113,13 @@ impl Filter {
         sift(self, starts, ends, steps, step, lower, upper, inputs)
     }
 
-    // The element that the filter stands on, or none; or refused 1, 2, 3, 6.
-    pub fn current(self, starts: &[i64], ends: &[u64], steps: &[i16]) -> Answer
-        ensures { λ r. ⌜ saysAnswer r ≡ filterCurrentOf (source starts ends steps) self ⌝ }
+    // What its scan carries when Within, else none; or refused 6, in any state of the filter, where the scan's `current` is.
+    pub fn current(self) -> Answer
+        ensures { λ r. ⌜ saysAnswer r ≡ filterCurrentOf self ⌝ }
     {
         let scan = self.scan;
         let state = self.state;
-        let answer = scan.current(starts, ends, steps);
+        let answer = scan.current();
         match state {
             FilterState::Before => none_or_refused(answer),
             FilterState::Within(_) => answer,

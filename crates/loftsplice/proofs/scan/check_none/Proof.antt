@@ -2,7 +2,6 @@
 use mathlib.Core.Path.{sym, ap, _∙_}
 use mathlib.Core.Bool.{not}
 use mathlib.Core.Option.{none}
-use Rattle.checked.specs.declared.Checked.{Checked}
 use Rattle.checked.specs.Says.{saysChecked}
 use Rattle.loftsplice.specs.declared.scan.Carried.{Carried}
 use Rattle.loftsplice.specs.Scan.{carriedBy, sameValue}

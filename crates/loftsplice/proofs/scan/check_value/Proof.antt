@@ -5,11 +5,10 @@ use mathlib.Core.Option.{some}
 use lib.IntN.{ℤ}
 use mir.Syntax.{w64}
 use mir.Val.{ofZ}
-use Rattle.ranges.proofs.Bools.{clash}
 use Rattle.keys.proofs.Bits.{same}
 use Rattle.meaning.specs.Column.{elementAt}
 use Rattle.meaning.specs.Contracts.{columnNow}
-use Rattle.meaning.specs.Refusals.{Said, Gives, Number, Word, fine}
+use Rattle.meaning.specs.Refusals.{Said, Word}
 use Rattle.meaning.proofs.Soundness.{sound-parts}
 use Rattle.checked.specs.Says.{saysChecked}
 use Rattle.loftsplice.specs.declared.scan.Carried.{Carried}
