@@ -2,14 +2,19 @@
 use mathlib.Core.Path.{_≡_, refl, ap}
 use mathlib.Core.Bool.{true, false}
 use lib.Dec.{eqb}
+use lib.IntN.{pos}
 use Rattle.bounds.specs.declared.BoundaryType.{BoundaryType}
 use Rattle.bounds.specs.declared.BoundaryType.the-variants.{Inclusive, Exclusive}
 use Rattle.bounds.specs.declared.Limit.{Limit}
 use Rattle.bounds.specs.declared.Limit.the-variants.{Free, To}
 use Rattle.loftsplice.specs.declared.scan.State.{State}
 use Rattle.loftsplice.specs.declared.scan.State.the-variants.{Fresh, At, Ended}
+use Rattle.loftsplice.specs.declared.scan.Carried.{Carried}
+use Rattle.loftsplice.specs.declared.scan.Carried.the-variants.{Value, None}
 use Rattle.loftsplice.specs.declared.scan.Scan.{Scan}
-use Rattle.c_forms.specs.Scan.{stateNumber, indexNumber, isState, stateOf, scanOf, flatScan}
+use Rattle.loftsplice.specs.Scan.{carriedBy}
+use Rattle.c_forms.specs.Flat.{foundIn, thereOr}
+use Rattle.c_forms.specs.Scan.{stateNumber, indexNumber, isState, isFound, goodScan, stateOf, carriedOf, scanOf, flatScan}
 use Rattle.c_forms.specs.Limits.{kindNumber, boundaryOf, flatLimit, isLimit, limitOf}
 
 -- ---- a scan
@@ -19,15 +24,27 @@ state-back Fresh = refl
 state-back (At i) = refl
 state-back Ended = refl
 
+pub carried-back : (v : Carried) → carriedOf (foundIn (carriedBy v)) (thereOr (pos 0) (carriedBy v)) ≡ v
+carried-back (Value v) = refl
+carried-back None = refl
+
 -- a scan that crosses and comes back is the same scan
 pub scan-back : (s : Scan) → scanOf (flatScan s) ≡ s
-scan-back s = ap (λ (t : State). record { start = s .start; end = s .end; state = t }) (state-back (s .state))
+scan-back s = rw (state-back (s .state), carried-back (s .value))
 
--- what the library gives is a state
-pub state-given : (t : State) → isState (stateNumber t) ≡ true
+-- what the library gives has the form
+state-given : (t : State) → isState (stateNumber t) ≡ true
 state-given Fresh = refl
 state-given (At i) = refl
 state-given Ended = refl
+
+found-given : (v : Carried) → isFound (foundIn (carriedBy v)) ≡ true
+found-given (Value v) = refl
+found-given None = refl
+
+pub scan-given : (s : Scan) → goodScan (flatScan s) ≡ true
+unfolding goodScan
+scan-given s = rw (state-given (s .state), found-given (s .value))
 
 -- ---- a limit
 
