@@ -13,7 +13,7 @@ use Rattle.c_forms.specs.Flat.{form}
 use Rattle.c_forms.specs.Answer.{flatAnswer}
 use Rattle.c_forms.specs.Scan.{isState}
 use Rattle.c_forms.specs.Limits.{flatLimit, limitOf}
-use Rattle.c_forms.proofs.Back.{scan-back, state-given, limit-back, limit-given}
+use Rattle.c_forms.proofs.Back.{scan-back, scan-given, limit-back, limit-given}
 use Rattle.c_filter.specs.declared.flat.FlatFilter.{FlatFilter}
 use Rattle.c_filter.specs.declared.flat.FlatSifted.{FlatSifted}
 use Rattle.c_filter.specs.Filter.{Lists, filterStateNumber, keptIn, filterStateOf, filterOf, flatFilter, goodFilter, goodLists, handed, flatSifted, callFilter, formedFilter, askFilter}
@@ -37,7 +37,7 @@ filter-state-given After = refl
 -- what the library gives has the form
 pub filter-given : (f : Filter) → goodFilter (flatFilter f) ≡ true
 unfolding goodFilter
-filter-given f = rw (state-given (f .scan .state), filter-state-given (f .state), limit-given (f .lower), limit-given (f .upper), limit-given (keptIn (f .state)))
+filter-given f = rw (scan-given (f .scan), filter-state-given (f .state), limit-given (f .lower), limit-given (f .upper), limit-given (keptIn (f .state)))
 
 -- ---- the calls
 

@@ -17,7 +17,7 @@ use Rattle.filter_interval.specs.Filter.{Call, handing, Sifting, refuseCall, fi
 use Rattle.c_forms.specs.declared.scans.FlatScan.{FlatScan}
 use Rattle.c_forms.specs.Flat.{form, refusalIn, backOr}
 use Rattle.c_forms.specs.Answer.{flatAnswer}
-use Rattle.c_forms.specs.Scan.{flatScan, isState, scanOf, noState, noScan}
+use Rattle.c_forms.specs.Scan.{flatScan, isState, goodScan, scanOf, noState, noScan}
 use Rattle.c_forms.specs.Limits.{flatLimit, isLimit, limitOf, kinds, founds, boundsOf, variablesOf, inputsOf}
 use Rattle.c_filter.specs.declared.flat.FlatFilter.{FlatFilter}
 use Rattle.c_filter.specs.declared.flat.FlatNewFilter.{FlatNewFilter}
@@ -40,9 +40,9 @@ keptIn After = Free
 abbrev pub flatFilter : Filter → FlatFilter
 flatFilter f = record { scan = flatScan (f .scan); lower = flatLimit (f .lower); upper = flatLimit (f .upper); kept = flatLimit (keptIn (f .state)); state = filterStateNumber (f .state) }
 
--- every number of a filter that is to be a state or a kind is one, also where it is not read
+-- every number of a filter that is to be one of a few is one of them, also where it is not read
 unfoldable pub goodFilter : FlatFilter → Bool
-goodFilter f = isState (f .scan .state) && isState (f .state) && isLimit (f .lower .kind) && isLimit (f .upper .kind) && isLimit (f .kept .kind)
+goodFilter f = goodScan (f .scan) && isState (f .state) && isLimit (f .lower .kind) && isLimit (f .upper .kind) && isLimit (f .kept .kind)
 
 -- the state of a number that is one; the kept bound is read Within only
 abbrev pub filterStateOf : ℕ → Limit → FilterState
@@ -56,7 +56,7 @@ filterOf f = record { scan = scanOf (f .scan); lower = limitOf (f .lower); upper
 -- FORM, and then making a filter
 unfoldable pub askFit : FlatScan → List ℤ → List ℕ → List ℤ → List ℕ → Said Filter
 askFit s lows lowKinds ups upKinds =
-    cond (isState (s .state) && kinds (length lows) lowKinds && kinds (length ups) upKinds) (fitOf (scanOf s) (boundsOf lows lowKinds) (boundsOf ups upKinds)) (Number form)
+    cond (goodScan s && kinds (length lows) lowKinds && kinds (length ups) upKinds) (fitOf (scanOf s) (boundsOf lows lowKinds) (boundsOf ups upKinds)) (Number form)
 
 -- what stands for a filter that is refused: no state, so that each call on it is refused FORM
 abbrev pub noFilter : FlatFilter

@@ -39,7 +39,7 @@ pub extern "C" fn loftsplice_filter_new(
 ) -> FlatNewFilter
     ensures { λ r. ⌜ r ≡ flatNewFilter (askFit scan (now (lows .entry)) (now (lowkinds .entry)) (now (ups .entry)) (now (upkinds .entry))) ⌝ }
 {
-    if is_fit(scan.state, lows.len(), lowkinds, ups.len(), upkinds) {
+    if is_fit(scan, lows.len(), lowkinds, ups.len(), upkinds) {
         let lower = bounds_of(lows, lowkinds);
         let upper = bounds_of(ups, upkinds);
         flat_new_filter(Filter::new(scan_of(scan), lower, upper))
@@ -105,18 +105,13 @@ pub extern "C" fn loftsplice_filter_seek(
     }
 }
 
-// The element that the filter stands on, or none; or refused 100, 1, 2, 3, 6.
+// What its scan carries when Within, else none; or refused 100, 6. It looks at no column.
 #[no_mangle]
-pub extern "C" fn loftsplice_filter_current(
-    filter: FlatFilter,
-    starts: &[i64],
-    ends: &[u64],
-    steps: &[i16],
-) -> FlatAnswer
-    ensures { λ r. ⌜ r ≡ flatAnswer (askFilter filter (filterCurrentOf (source starts ends steps))) ⌝ }
+pub extern "C" fn loftsplice_filter_current(filter: FlatFilter) -> FlatAnswer
+    ensures { λ r. ⌜ r ≡ flatAnswer (askFilter filter filterCurrentOf) ⌝ }
 {
     if is_filter(filter) {
-        flat_answer(filter_of(filter).current(starts, ends, steps))
+        flat_answer(filter_of(filter).current())
     } else {
         bad_form()
     }

@@ -3,7 +3,7 @@ ghost use mathlib.Core.Path.{_≡_};
 ghost use mathlib.Core.Bool.{_&&_};
 ghost use Rattle.meaning.specs.Refusals.{Number};
 ghost use Rattle.filter_interval.specs.Filter.{saysFitted, siftingOf};
-ghost use Rattle.c_forms.specs.Scan.{isState};
+ghost use Rattle.c_forms.specs.Scan.{goodScan};
 ghost use Rattle.c_forms.specs.Limits.{kinds};
 ghost use Rattle.c_filter.specs.Filter.{goodFilter, goodLists, filterStateOf, filterOf, flatFilter, flatSifted, flatNewFilter};
 ghost use Rattle.c_filter.specs.Contracts.{lists};
@@ -17,7 +17,7 @@ use c_forms::limits::is_paired;
 use c_forms::limits::limit_of;
 use c_forms::scans::FlatScan;
 use c_forms::scans::flat_scan;
-use c_forms::scans::is_state;
+use c_forms::scans::is_scan;
 use c_forms::scans::no_scan;
 use c_forms::scans::scan_of;
 use filter_interval::Filter;
@@ -58,7 +58,7 @@ pub struct FlatReset {
     pub filter: FlatFilter,
 }
 
-// Whether every state and kind is one.
+// Whether the scan has the form, and every state and kind is one.
 pub(crate) fn is_filter(filter: FlatFilter) -> bool
     ensures { λ r. ⌜ r ≡ goodFilter filter ⌝ }
 {
@@ -66,7 +66,7 @@ pub(crate) fn is_filter(filter: FlatFilter) -> bool
     let lower = filter.lower;
     let upper = filter.upper;
     let kept = filter.kept;
-    if 2 < scan.state {
+    if !is_scan(scan) {
         return false;
     }
     if 2 < filter.state {
@@ -200,17 +200,17 @@ pub(crate) fn no_filter(refusal: u32) -> FlatNewFilter
     }
 }
 
-// Whether what a filter is made from has the form: the scan's state, and each list of bounds.
+// Whether what a filter is made from has the form: the scan, and each list of bounds.
 pub(crate) fn is_fit(
-    state: u32,
+    scan: FlatScan,
     lower: usize,
     lowkinds: &[u8],
     upper: usize,
     upkinds: &[u8],
 ) -> bool
-    ensures { λ r. ⌜ r ≡ (isState state && kinds lower (now (lowkinds .entry)) && kinds upper (now (upkinds .entry))) ⌝ }
+    ensures { λ r. ⌜ r ≡ (goodScan scan && kinds lower (now (lowkinds .entry)) && kinds upper (now (upkinds .entry))) ⌝ }
 {
-    if is_state(state) {
+    if is_scan(scan) {
         are_bounds(lower, lowkinds, upper, upkinds)
     } else {
         false

@@ -8,14 +8,14 @@ use Rattle.loftsplice.specs.Scan.{Outcome, refuse}
 use Rattle.c_forms.specs.declared.scans.FlatScan.{FlatScan}
 use Rattle.c_forms.specs.Flat.{form, refusalIn, givenOr, backOr, foundIn, thereOr}
 use Rattle.c_forms.specs.Answer.{flatAnswer}
-use Rattle.c_forms.specs.Scan.{isState, scanOf, flatScan, noScan}
+use Rattle.c_forms.specs.Scan.{goodScan, scanOf, flatScan, noScan}
 use Rattle.c_scan.specs.declared.FlatNewScan.{FlatNewScan}
 use Rattle.c_scan.specs.declared.FlatMoved.{FlatMoved}
 use Rattle.c_scan.specs.declared.FlatPosition.{FlatPosition}
 
 -- FORM, and then a call that moves the scan: "A refusal returns its number; scan .. come back as they went in"
 unfoldable pub formedScan : FlatScan → (Scan → Outcome) → Outcome
-formedScan s call = cond (isState (s .state)) (call (scanOf s)) (refuse (scanOf s) form)
+formedScan s call = cond (goodScan s) (call (scanOf s)) (refuse (scanOf s) form)
 
 abbrev pub flatMoved : FlatScan → Outcome → FlatMoved
 flatMoved s m = record { scan = backOr s (m .said) (flatScan (m .scan)); answer = flatAnswer (m .said) }
@@ -25,7 +25,7 @@ callScan s call = flatMoved s (formedScan s call)
 
 -- FORM, and then a call that only asks
 unfoldable pub askScan : {A : Type 0} → FlatScan → (Scan → Said A) → Said A
-askScan s call = cond (isState (s .state)) (call (scanOf s)) (Number form)
+askScan s call = cond (goodScan s) (call (scanOf s)) (Number form)
 
 -- a refusal's number or 0; 1 if there is an index, else 0; the index or 0
 abbrev pub flatPosition : Said (Option ℕ) → FlatPosition

@@ -9,7 +9,7 @@ use c_forms::answers::bad_form;
 use c_forms::answers::flat_answer;
 use c_forms::scans::FlatScan;
 use c_forms::scans::flat_scan;
-use c_forms::scans::is_state;
+use c_forms::scans::is_scan;
 use c_forms::scans::no_scan;
 use c_forms::scans::scan_of;
 use loftsplice::refusal::number;
@@ -114,7 +114,7 @@ pub extern "C" fn loftsplice_scan_next(
 ) -> FlatMoved
     ensures { λ r. ⌜ r ≡ callScan scan (nextOf (source starts ends steps)) ⌝ }
 {
-    if is_state(scan.state) {
+    if is_scan(scan) {
         let moved = scan_of(scan).next(starts, ends, steps);
         flat_moved(scan, moved)
     } else {
@@ -134,7 +134,7 @@ pub extern "C" fn loftsplice_scan_seek(
 ) -> FlatMoved
     ensures { λ r. ⌜ r ≡ callScan scan (seekOf (source starts ends steps) target) ⌝ }
 {
-    if is_state(scan.state) {
+    if is_scan(scan) {
         let moved = scan_of(scan).seek(starts, ends, steps, target);
         flat_moved(scan, moved)
     } else {
@@ -155,7 +155,7 @@ pub extern "C" fn loftsplice_scan_narrow(
 ) -> FlatMoved
     ensures { λ r. ⌜ r ≡ callScan scan (narrowOf (source starts ends steps) start end) ⌝ }
 {
-    if is_state(scan.state) {
+    if is_scan(scan) {
         let moved = scan_of(scan).narrow(starts, ends, steps, start, end);
         flat_moved(scan, moved)
     } else {
@@ -174,7 +174,7 @@ pub extern "C" fn loftsplice_scan_reset(
 ) -> FlatMoved
     ensures { λ r. ⌜ r ≡ callScan scan (resetOf (source starts ends steps)) ⌝ }
 {
-    if is_state(scan.state) {
+    if is_scan(scan) {
         let moved = scan_of(scan).reset(starts, ends, steps);
         flat_moved(scan, moved)
     } else {
@@ -183,18 +183,13 @@ pub extern "C" fn loftsplice_scan_reset(
     }
 }
 
-// The element when at an index, else none; or refused 100, 1, 2, 3, 6.
+// What the scan carries, or none; or refused 100, 6. It looks at no column.
 #[no_mangle]
-pub extern "C" fn loftsplice_scan_current(
-    scan: FlatScan,
-    starts: &[i64],
-    ends: &[u64],
-    steps: &[i16],
-) -> FlatAnswer
-    ensures { λ r. ⌜ r ≡ flatAnswer (askScan scan (currentOf (source starts ends steps))) ⌝ }
+pub extern "C" fn loftsplice_scan_current(scan: FlatScan) -> FlatAnswer
+    ensures { λ r. ⌜ r ≡ flatAnswer (askScan scan currentOf) ⌝ }
 {
-    if is_state(scan.state) {
-        flat_answer(scan_of(scan).current(starts, ends, steps))
+    if is_scan(scan) {
+        flat_answer(scan_of(scan).current())
     } else {
         bad_form()
     }
@@ -210,7 +205,7 @@ pub extern "C" fn loftsplice_scan_pos(
 ) -> FlatPosition
     ensures { λ r. ⌜ r ≡ flatPosition (askScan scan (posOf (source starts ends steps))) ⌝ }
 {
-    if is_state(scan.state) {
+    if is_scan(scan) {
         flat_position(scan_of(scan).pos(starts, ends, steps))
     } else {
         FlatPosition {

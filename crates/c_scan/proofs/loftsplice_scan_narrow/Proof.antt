@@ -5,8 +5,8 @@ use borrow.Author.Needs.{needs}
 use Rattle.c_scan.proofs.loftsplice_scan_narrow.Statement.{statement}
 use Rattle.c_scan.proofs.loftsplice_scan_narrow.Tie as tie
 
-is-state-requires : tie.Need-is-state-requires
-is-state-requires c κs = search needs
+is-scan-requires : tie.Need-is-scan-requires
+is-scan-requires c κs = search needs
 
 scan-of-requires : tie.Need-scan-of-requires
 scan-of-requires c κs = search needs
@@ -26,19 +26,19 @@ returns c =
     let at-scan = at-call .before in
     let at-test = at-scan .before in
     let start = at-test .before .before .before in
-    called (start .args .scan) _ (sym (at-test .before .is-state .ensures) ∙ at-test .if1 .taken) (at-scan .scan-of .ensures) (at-call .narrow .ensures) (c .flat-moved .ensures)
+    called (start .args .scan) _ (sym (at-test .before .is-scan .ensures) ∙ at-test .if1 .taken) (at-scan .scan-of .ensures) (at-call .narrow .ensures) (c .flat-moved .ensures)
 
 returns-2 : tie.Need-returns-2
 returns-2 c =
     let at-test = c .before in
     let start = at-test .before .before .before in
-    not-called (start .args .scan) _ (sym (at-test .before .is-state .ensures) ∙ at-test .if1 .left) (c .bad-form .ensures)
+    not-called (start .args .scan) _ (sym (at-test .before .is-scan .ensures) ∙ at-test .if1 .left) (c .bad-form .ensures)
 
 pub loftsplice-scan-narrow-spec : {M : Type 1} → statement M
 loftsplice-scan-narrow-spec =
     tie.close
     (tie.spec
-    is-state-requires
+    is-scan-requires
     scan-of-requires
     narrow-requires
     flat-moved-requires

@@ -6,8 +6,8 @@ use borrow.Author.Needs.{needs}
 use Rattle.c_scan.proofs.loftsplice_scan_pos.Statement.{statement}
 use Rattle.c_scan.proofs.loftsplice_scan_pos.Tie as tie
 
-is-state-requires : tie.Need-is-state-requires
-is-state-requires c κs = search needs
+is-scan-requires : tie.Need-is-scan-requires
+is-scan-requires c κs = search needs
 
 scan-of-requires : tie.Need-scan-of-requires
 scan-of-requires c κs = search needs
@@ -25,18 +25,18 @@ returns c =
     let at-test = at-scan .before in
     let start = at-test .before .before .before in
     c .flat-position .ensures
-    ∙ ap flatPosition (asked (start .args .scan) _ (sym (at-test .before .is-state .ensures) ∙ at-test .if1 .taken) (at-scan .scan-of .ensures) (at-call .pos .ensures))
+    ∙ ap flatPosition (asked (start .args .scan) _ (sym (at-test .before .is-scan .ensures) ∙ at-test .if1 .taken) (at-scan .scan-of .ensures) (at-call .pos .ensures))
 
 returns-2 : tie.Need-returns-2
 returns-2 c =
     let start = c .before .before .before in
-    ap flatPosition (not-asked (start .args .scan) _ (sym (c .before .is-state .ensures) ∙ c .if1 .left))
+    ap flatPosition (not-asked (start .args .scan) _ (sym (c .before .is-scan .ensures) ∙ c .if1 .left))
 
 pub loftsplice-scan-pos-spec : {M : Type 1} → statement M
 loftsplice-scan-pos-spec =
     tie.close
     (tie.spec
-    is-state-requires
+    is-scan-requires
     scan-of-requires
     pos-requires
     flat-position-requires

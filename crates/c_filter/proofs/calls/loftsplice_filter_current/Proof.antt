@@ -26,14 +26,14 @@ returns c =
     let at-call = c .before in
     let at-filter = at-call .before in
     let at-test = at-filter .before in
-    let start = at-test .before .before .before in
+    let start = at-test .before .before in
     c .flat-answer .ensures
     ∙ ap flatAnswer (asked (start .args .filter) _ (sym (at-test .before .is-filter .ensures) ∙ at-test .if1 .taken) (at-filter .filter-of .ensures) (at-call .current .ensures))
 
 returns-2 : tie.Need-returns-2
 returns-2 c =
     let at-test = c .before in
-    let start = at-test .before .before .before in
+    let start = at-test .before .before in
     c .bad-form .ensures ∙ ap flatAnswer (not-asked (start .args .filter) _ (sym (at-test .before .is-filter .ensures) ∙ at-test .if1 .left))
 
 pub loftsplice-filter-current-spec : {M : Type 1} → statement M
