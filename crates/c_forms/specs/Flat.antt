@@ -4,7 +4,7 @@ use mathlib.Core.Bool.{Bool, true, false}
 use mathlib.Core.Option.{Option, some, none}
 use Rattle.meaning.specs.Refusals.{Said, Gives, Number}
 
--- 100 FORM: a number that is no state or kind, or two lists that belong together and differ in length. It is tried before all others.
+-- 100 FORM: a number that is no state, kind or found, or two lists that belong together and differ in length. It is tried before all others.
 abbrev pub form : ℕ
 form = 100
 
