@@ -7,7 +7,7 @@
  * What an answer does not give is 0.
  *
  * A list is a pointer and the number of its elements; the pointer has to be good for that many, and is not read where that is 0.
- * A column is three lists: run starts, run ends (counted from the column's beginning) and steps. It goes with every call.
+ * A column is three lists: run starts, run ends (counted from the column's beginning) and steps. It goes with each call that looks at it.
  * Lists that are written (`out`, `counts`, ..) may not overlap with others.
  */
 #ifndef LOFTSPLICE_H
@@ -27,7 +27,7 @@ enum {
     LOFTSPLICE_REACH = 3,   /* a run's last element is outside i64 */
     LOFTSPLICE_INDEX = 4,   /* element asked at index >= length; place asked above length */
     LOFTSPLICE_WINDOW = 5,  /* window end above length */
-    LOFTSPLICE_SCAN = 6,    /* the scan's window end is above length, or its index is outside its window */
+    LOFTSPLICE_SCAN = 6,    /* the scan's window end is above length, its index is outside its window, or it does not carry the element that it is at */
     LOFTSPLICE_ORDER = 7,   /* seek, filter or listing over a window that doesn't rise */
     LOFTSPLICE_BOUNDS = 8,  /* over 16 bounds in a list, over 8 inputs; over 256 windows or window lists of unequal length */
     LOFTSPLICE_INPUT = 9,   /* Before only: a variable bound names an input that isn't there or has no value */
@@ -35,7 +35,7 @@ enum {
     LOFTSPLICE_CUT = 11,    /* record: fewer than 4 bytes, or fewer than the length says */
     LOFTSPLICE_KIND = 12,   /* record: kind is not 1 */
     LOFTSPLICE_SIZE = 13,   /* record: length under 2 or over 57,346, or length minus 2 no multiple of 14 */
-    LOFTSPLICE_FORM = 100   /* a number that is no state or kind, or two lists that belong together and differ in length */
+    LOFTSPLICE_FORM = 100   /* a number that is no state, kind or found, or two lists that belong together and differ in length */
 };
 
 /* The state of a scan. */
@@ -50,12 +50,16 @@ enum { LOFTSPLICE_FREE = 0, LOFTSPLICE_INCLUSIVE = 1, LOFTSPLICE_EXCLUSIVE = 2 }
 /* The state in a scan or filter that was refused when it was made: no state, so that each call on it is refused LOFTSPLICE_FORM. */
 #define LOFTSPLICE_NO_STATE UINT32_C(4294967295)
 
-/* A window start..end and a state; the index is read only when LOFTSPLICE_AT, and given as 0 otherwise. */
+/* A window start..end and a state; the index is read only when LOFTSPLICE_AT, and given as 0 otherwise.
+ * And what the scan carries: found 1 and the element that it is at, or found 0, when fresh or ended; any other found is refused LOFTSPLICE_FORM. The
+ * value is read only where found is 1, and given as 0 where it is 0. */
 typedef struct loftsplice_scan {
     uint64_t start;
     uint64_t end;
     uint64_t index;
+    int64_t value;
     uint32_t state;
+    uint32_t found;
 } loftsplice_scan;
 
 /* A bound, or none: kind LOFTSPLICE_FREE. */
@@ -207,9 +211,9 @@ loftsplice_moved loftsplice_scan_narrow(loftsplice_scan scan, const int64_t *sta
 loftsplice_moved loftsplice_scan_reset(loftsplice_scan scan, const int64_t *starts, size_t starts_len, const uint64_t *ends, size_t ends_len,
     const int16_t *steps, size_t steps_len);
 
-/* The element that the scan is at, or none; or refused 100, 1, 2, 3, 6. */
-loftsplice_answer loftsplice_scan_current(loftsplice_scan scan, const int64_t *starts, size_t starts_len, const uint64_t *ends, size_t ends_len,
-    const int16_t *steps, size_t steps_len);
+/* What the scan carries: the element that it is at, or none; or refused 100, 6. It looks at no column, so 6 is given only where a value is there when
+ * fresh or ended, or is missing at an index. */
+loftsplice_answer loftsplice_scan_current(loftsplice_scan scan);
 
 /* The index that the scan is at, or none; or refused 100, 1, 2, 3, 6. */
 loftsplice_position loftsplice_scan_pos(loftsplice_scan scan, const int64_t *starts, size_t starts_len, const uint64_t *ends, size_t ends_len,
@@ -235,9 +239,9 @@ loftsplice_sifted loftsplice_filter_seek(loftsplice_filter filter, const int64_t
     size_t lower_kinds_len, const uint64_t *upper_inputs, size_t upper_inputs_len, const uint8_t *upper_kinds, size_t upper_kinds_len,
     const int64_t *input_values, size_t input_values_len, const uint8_t *input_found, size_t input_found_len);
 
-/* The element that the filter stands on when Within, else none; or refused 100, 1, 2, 3, 6. */
-loftsplice_answer loftsplice_filter_current(loftsplice_filter filter, const int64_t *starts, size_t starts_len, const uint64_t *ends,
-    size_t ends_len, const int16_t *steps, size_t steps_len);
+/* What its scan carries when Within, else none; or refused 100, 6: in any state of the filter where loftsplice_scan_current of its scan is. It looks at
+ * no column. */
+loftsplice_answer loftsplice_filter_current(loftsplice_filter filter);
 
 /* Before again, the scan as it stands; or refused 100. */
 loftsplice_reset loftsplice_filter_reset(loftsplice_filter filter);

@@ -53,13 +53,18 @@ static const int16_t edge_steps[] = {1};
 static const column edge = COLUMN(edge_starts, edge_8, edge_steps);
 static const column past_edge = COLUMN(edge_starts, edge_9, edge_steps);
 
-static void same_scan_at(int line, loftsplice_scan got, uint64_t start, uint64_t end, uint64_t index, uint32_t state) {
-    same_at("scan.start", line, (int64_t)got.start, (int64_t)start);
-    same_at("scan.end", line, (int64_t)got.end, (int64_t)end);
-    same_at("scan.index", line, (int64_t)got.index, (int64_t)index);
-    same_at("scan.state", line, got.state, state);
+/* Two scans, number by number. */
+static void same_scan_at(int line, loftsplice_scan got, loftsplice_scan wanted) {
+    same_at("scan.start", line, (int64_t)got.start, (int64_t)wanted.start);
+    same_at("scan.end", line, (int64_t)got.end, (int64_t)wanted.end);
+    same_at("scan.index", line, (int64_t)got.index, (int64_t)wanted.index);
+    same_at("scan.value", line, got.value, wanted.value);
+    same_at("scan.state", line, got.state, wanted.state);
+    same_at("scan.found", line, got.found, wanted.found);
 }
-#define SCAN(got, start, end, index, state) same_scan_at(__LINE__, got, start, end, index, state)
+/* At no index, and at one with the value that is carried. */
+#define SCAN(got, start, end, state) same_scan_at(__LINE__, got, (loftsplice_scan){start, end, 0, 0, state, 0})
+#define SCAN_AT(got, start, end, index, value) same_scan_at(__LINE__, got, (loftsplice_scan){start, end, index, value, LOFTSPLICE_AT, 1})
 
 static void same_answer_at(int line, loftsplice_answer got, uint32_t refusal, uint32_t found, int64_t value) {
     same_at("answer.refusal", line, got.refusal, refusal);
@@ -78,7 +83,7 @@ static void same_limit_at(int line, loftsplice_limit got, uint32_t kind, int64_t
 
 /* Two filters, number by number. */
 static void same_filter_at(int line, loftsplice_filter got, loftsplice_filter wanted) {
-    same_scan_at(line, got.scan, wanted.scan.start, wanted.scan.end, wanted.scan.index, wanted.scan.state);
+    same_scan_at(line, got.scan, wanted.scan);
     same_limit_at(line, got.lower, wanted.lower.kind, wanted.lower.value);
     same_limit_at(line, got.upper, wanted.upper.kind, wanted.upper.value);
     same_limit_at(line, got.kept, wanted.kept.kind, wanted.kept.value);
@@ -86,22 +91,23 @@ static void same_filter_at(int line, loftsplice_filter got, loftsplice_filter wa
 }
 #define FILTER(got, wanted) same_filter_at(__LINE__, got, wanted)
 
-/* Each call on a scan, all with the same refusal, and the scan as it went in. */
+/* Each call on a scan that takes the column, all with the same refusal, and the scan as it went in. */
 static void scan_refused_at(int line, column c, loftsplice_scan s, uint32_t refusal) {
     loftsplice_moved moved[] = {
         loftsplice_scan_next(s, LISTS(c)), loftsplice_scan_seek(s, LISTS(c), 7), loftsplice_scan_narrow(s, LISTS(c), 0, 1),
         loftsplice_scan_reset(s, LISTS(c))};
     for (size_t i = 0; i < sizeof moved / sizeof *moved; i++) {
         same_answer_at(line, moved[i].answer, refusal, 0, 0);
-        same_scan_at(line, moved[i].scan, s.start, s.end, s.index, s.state);
+        same_scan_at(line, moved[i].scan, s);
     }
-    same_answer_at(line, loftsplice_scan_current(s, LISTS(c)), refusal, 0, 0);
     loftsplice_position p = loftsplice_scan_pos(s, LISTS(c));
     same_at("position.refusal", line, p.refusal, refusal);
     same_at("position.found", line, p.found, 0);
     same_at("position.index", line, (int64_t)p.index, 0);
 }
 #define SCAN_REFUSED(c, s, refusal) scan_refused_at(__LINE__, c, s, refusal)
+/* .. and its current */
+#define ALL_REFUSED(c, s, refusal) (SCAN_REFUSED(c, s, refusal), REFUSED(loftsplice_scan_current(s), refusal))
 
 /* Lists of variable bounds and inputs. */
 typedef struct lists {
@@ -228,50 +234,50 @@ static void columns(void) {
 
 static void scans(void) {
     loftsplice_scan s = fresh(C);
-    SCAN(s, 0, 9, 0, LOFTSPLICE_FRESH);
-    NONE(loftsplice_scan_current(s, LISTS(C)));
+    SCAN(s, 0, 9, LOFTSPLICE_FRESH);
+    NONE(loftsplice_scan_current(s));
 
     /* P3 */
     loftsplice_moved m = loftsplice_scan_seek(s, LISTS(C), 16);
-    VALUE(m.answer, 20), SCAN(m.scan, 0, 9, 2, LOFTSPLICE_AT);
-    VALUE(loftsplice_scan_current(m.scan, LISTS(C)), 20);
+    VALUE(m.answer, 20), SCAN_AT(m.scan, 0, 9, 2, 20);
+    VALUE(loftsplice_scan_current(m.scan), 20);
     loftsplice_position p = loftsplice_scan_pos(m.scan, LISTS(C));
     SAME(p.refusal, 0), SAME(p.found, 1), SAME(p.index, 2);
     p = loftsplice_scan_pos(s, LISTS(C));
     SAME(p.refusal, 0), SAME(p.found, 0), SAME(p.index, 0);
     /* P4 */
     m = loftsplice_scan_seek(s, LISTS(C), 26);
-    VALUE(m.answer, 30), SCAN(m.scan, 0, 9, 4, LOFTSPLICE_AT);
+    VALUE(m.answer, 30), SCAN_AT(m.scan, 0, 9, 4, 30);
     /* P5 */
     m = loftsplice_scan_seek(s, LISTS(C), 241);
-    NONE(m.answer), SCAN(m.scan, 0, 9, 0, LOFTSPLICE_ENDED);
+    NONE(m.answer), SCAN(m.scan, 0, 9, LOFTSPLICE_ENDED);
     m = loftsplice_scan_next(m.scan, LISTS(C));
-    NONE(m.answer), SCAN(m.scan, 0, 9, 0, LOFTSPLICE_ENDED);
+    NONE(m.answer), SCAN(m.scan, 0, 9, LOFTSPLICE_ENDED);
     m = loftsplice_scan_reset(m.scan, LISTS(C));
-    NONE(m.answer), SCAN(m.scan, 0, 9, 0, LOFTSPLICE_FRESH);
+    NONE(m.answer), SCAN(m.scan, 0, 9, LOFTSPLICE_FRESH);
     /* P6 */
-    loftsplice_scan at_5 = {0, 9, 5, LOFTSPLICE_AT};
+    loftsplice_scan at_5 = {0, 9, 5, 31, LOFTSPLICE_AT, 1};
     m = loftsplice_scan_seek(at_5, LISTS(C), 12);
-    VALUE(m.answer, 31), SCAN(m.scan, 0, 9, 5, LOFTSPLICE_AT);
+    VALUE(m.answer, 31), SCAN_AT(m.scan, 0, 9, 5, 31);
     /* P7 */
     m = loftsplice_scan_narrow(s, LISTS(C), 3, 8);
-    NONE(m.answer), SCAN(m.scan, 3, 8, 0, LOFTSPLICE_FRESH);
+    NONE(m.answer), SCAN(m.scan, 3, 8, LOFTSPLICE_FRESH);
     m = loftsplice_scan_next(m.scan, LISTS(C));
-    VALUE(m.answer, 25), SCAN(m.scan, 3, 8, 3, LOFTSPLICE_AT);
+    VALUE(m.answer, 25), SCAN_AT(m.scan, 3, 8, 3, 25);
     m = loftsplice_scan_seek(m.scan, LISTS(C), 200);
-    NONE(m.answer), SCAN(m.scan, 3, 8, 0, LOFTSPLICE_ENDED);
+    NONE(m.answer), SCAN(m.scan, 3, 8, LOFTSPLICE_ENDED);
     /* P8 */
     m = loftsplice_scan_next(loftsplice_scan_narrow(s, LISTS(C), 3, 3).scan, LISTS(C));
-    NONE(m.answer), SCAN(m.scan, 3, 3, 0, LOFTSPLICE_ENDED);
+    NONE(m.answer), SCAN(m.scan, 3, 3, LOFTSPLICE_ENDED);
     m = loftsplice_scan_next(loftsplice_scan_narrow(s, LISTS(C), 8, 2).scan, LISTS(C));
-    NONE(m.answer), SCAN(m.scan, 8, 2, 0, LOFTSPLICE_ENDED);
+    NONE(m.answer), SCAN(m.scan, 8, 2, LOFTSPLICE_ENDED);
     m = loftsplice_scan_narrow(at_5, LISTS(C), 0, 10);
-    REFUSED(m.answer, LOFTSPLICE_WINDOW), SCAN(m.scan, 0, 9, 5, LOFTSPLICE_AT);
+    REFUSED(m.answer, LOFTSPLICE_WINDOW), SCAN_AT(m.scan, 0, 9, 5, 31);
     /* P9 */
     m = loftsplice_scan_seek(fresh(D), LISTS(D), 6);
-    REFUSED(m.answer, LOFTSPLICE_ORDER), SCAN(m.scan, 0, 5, 0, LOFTSPLICE_FRESH);
+    REFUSED(m.answer, LOFTSPLICE_ORDER), SCAN(m.scan, 0, 5, LOFTSPLICE_FRESH);
     m = loftsplice_scan_seek(loftsplice_scan_narrow(fresh(D), LISTS(D), 1, 5).scan, LISTS(D), 6);
-    VALUE(m.answer, 6), SCAN(m.scan, 1, 5, 2, LOFTSPLICE_AT);
+    VALUE(m.answer, 6), SCAN_AT(m.scan, 1, 5, 2, 6);
 
     /* all elements, by next alone */
     static const int64_t elements[] = {10, 15, 20, 25, 30, 31, 40, 140, 240};
@@ -282,32 +288,110 @@ static void scans(void) {
     }
     NONE(loftsplice_scan_next(s, LISTS(C)).answer);
 
-    /* bad columns and scans; an index that is not read comes back too */
-    loftsplice_scan ended = {0, 9, 77, LOFTSPLICE_ENDED}, odd = {0, 9, 77, 3}, far = {4, 5, 6, 256};
+    /* bad columns and scans; an index and a value that are not read come back too */
+    loftsplice_scan ended = {0, 9, 77, 66, LOFTSPLICE_ENDED, 0}, odd = {0, 9, 77, 66, 3, 0}, far = {4, 5, 6, 66, 256, 1};
     SCAN_REFUSED(uneven, ended, LOFTSPLICE_SHAPE);
     SCAN_REFUSED(standing, ended, LOFTSPLICE_ENDS);
     SCAN_REFUSED(past_edge, ended, LOFTSPLICE_REACH);
-    loftsplice_scan long_one = {0, 10, 0, LOFTSPLICE_FRESH}, outside = {2, 9, 1, LOFTSPLICE_AT}, at_end = {0, 9, 9, LOFTSPLICE_AT};
+    loftsplice_scan long_one = {0, 10, 0, 0, LOFTSPLICE_FRESH, 0}, outside = {2, 9, 1, 15, LOFTSPLICE_AT, 1}, at_end = {0, 9, 9, 240, LOFTSPLICE_AT, 1};
     SCAN_REFUSED(C, long_one, LOFTSPLICE_SCAN);
     SCAN_REFUSED(C, outside, LOFTSPLICE_SCAN);
     SCAN_REFUSED(C, at_end, LOFTSPLICE_SCAN);
     m = loftsplice_scan_next(ended, LISTS(C));
-    NONE(m.answer), SCAN(m.scan, 0, 9, 0, LOFTSPLICE_ENDED);
+    NONE(m.answer), SCAN(m.scan, 0, 9, LOFTSPLICE_ENDED);
 
     /* no state: 100, also before 1; never taken for ended */
-    SCAN_REFUSED(C, odd, LOFTSPLICE_FORM);
-    SCAN_REFUSED(C, far, LOFTSPLICE_FORM);
-    SCAN_REFUSED(uneven, odd, LOFTSPLICE_FORM);
+    ALL_REFUSED(C, odd, LOFTSPLICE_FORM);
+    ALL_REFUSED(C, far, LOFTSPLICE_FORM);
+    ALL_REFUSED(uneven, odd, LOFTSPLICE_FORM);
     for (uint32_t state = 3; state < 260; state++) {
-        loftsplice_scan bad = {0, 9, 0, state};
-        SCAN_REFUSED(C, bad, LOFTSPLICE_FORM);
+        loftsplice_scan bad = {0, 9, 0, 0, state, 0};
+        ALL_REFUSED(C, bad, LOFTSPLICE_FORM);
     }
 
     /* a scan that could not be made can't be used */
     loftsplice_new_scan refused = loftsplice_scan_new(LISTS(uneven));
     SAME(refused.refusal, LOFTSPLICE_SHAPE);
-    SCAN(refused.scan, 0, 0, 0, LOFTSPLICE_NO_STATE);
-    SCAN_REFUSED(C, refused.scan, LOFTSPLICE_FORM);
+    SCAN(refused.scan, 0, 0, LOFTSPLICE_NO_STATE);
+    ALL_REFUSED(C, refused.scan, LOFTSPLICE_FORM);
+}
+
+/* What a scan carries: 6 for a value that does not belong there, by every call that has the column; `current` has none and sees less. */
+static void carried(void) {
+    loftsplice_scan at_2 = {0, 9, 2, 20, LOFTSPLICE_AT, 1}, fresh_with = {0, 9, 0, 10, LOFTSPLICE_FRESH, 1}, ended_with = {0, 9, 0, 240, LOFTSPLICE_ENDED, 1};
+    loftsplice_scan missing = {0, 9, 2, 20, LOFTSPLICE_AT, 0}, wrong = {0, 9, 2, 21, LOFTSPLICE_AT, 1}, lowest = {0, 9, 2, INT64_MIN, LOFTSPLICE_AT, 1};
+    VALUE(loftsplice_scan_current(at_2), 20);
+    VALUE(loftsplice_scan_next(at_2, LISTS(C)).answer, 25);
+
+    /* a value when fresh or ended, none at an index: current too */
+    ALL_REFUSED(C, fresh_with, LOFTSPLICE_SCAN);
+    ALL_REFUSED(C, ended_with, LOFTSPLICE_SCAN);
+    ALL_REFUSED(C, missing, LOFTSPLICE_SCAN);
+
+    /* not the element at that index: every call but current, which answers it; narrow and reset do not repair it */
+    SCAN_REFUSED(C, wrong, LOFTSPLICE_SCAN);
+    VALUE(loftsplice_scan_current(wrong), 21);
+    SCAN_REFUSED(C, lowest, LOFTSPLICE_SCAN);
+    VALUE(loftsplice_scan_current(lowest), INT64_MIN);
+    SCAN_REFUSED(D, at_2, LOFTSPLICE_SCAN);
+
+    /* current looks at no window and no length */
+    loftsplice_scan beyond = {5, 1000, 4, 7, LOFTSPLICE_AT, 1}, long_one = {0, 1000, 0, 0, LOFTSPLICE_FRESH, 0};
+    VALUE(loftsplice_scan_current(beyond), 7);
+    SCAN_REFUSED(C, beyond, LOFTSPLICE_SCAN);
+    NONE(loftsplice_scan_current(long_one));
+    SCAN_REFUSED(C, long_one, LOFTSPLICE_SCAN);
+
+    /* 1, 2 and 3 come before */
+    SCAN_REFUSED(uneven, wrong, LOFTSPLICE_SHAPE);
+    SCAN_REFUSED(standing, missing, LOFTSPLICE_ENDS);
+    SCAN_REFUSED(past_edge, fresh_with, LOFTSPLICE_REACH);
+
+    /* found that is neither 1 nor 0: 100, never taken for one of them */
+    for (uint32_t found = 2; found < 260; found++) {
+        loftsplice_scan bad = {0, 9, 2, 20, LOFTSPLICE_AT, found}, none_there = {0, 9, 0, 0, LOFTSPLICE_FRESH, found};
+        ALL_REFUSED(C, bad, LOFTSPLICE_FORM);
+        ALL_REFUSED(uneven, none_there, LOFTSPLICE_FORM);
+    }
+    loftsplice_scan most = {0, 9, 0, 0, LOFTSPLICE_ENDED, UINT32_MAX};
+    ALL_REFUSED(C, most, LOFTSPLICE_FORM);
+
+    /* a value that is not there is not read, and comes back as 0 */
+    loftsplice_scan unread = {0, 9, 0, 66, LOFTSPLICE_FRESH, 0};
+    NONE(loftsplice_scan_current(unread));
+    loftsplice_moved m = loftsplice_scan_narrow(unread, LISTS(C), 2, 4);
+    NONE(m.answer), SCAN(m.scan, 2, 4, LOFTSPLICE_FRESH);
+    m = loftsplice_scan_reset(at_2, LISTS(C));
+    NONE(m.answer), SCAN(m.scan, 0, 9, LOFTSPLICE_FRESH);
+
+    /* the filter's calls: next and seek in any state, after 3 and before 8; current in any state, what is carried only when Within */
+    loftsplice_scan bad[] = {fresh_with, ended_with, missing, wrong};
+    static const uint32_t states[] = {LOFTSPLICE_BEFORE, LOFTSPLICE_WITHIN, LOFTSPLICE_AFTER};
+    static uint64_t many_inputs[17];
+    static uint8_t many_kinds[17];
+    memset(many_kinds, LOFTSPLICE_INCLUSIVE, sizeof many_kinds);
+    lists l17 = no_lists;
+    l17.upper = many_inputs, l17.upper_len = 17, l17.upper_kinds = many_kinds, l17.upper_kinds_len = 17;
+    for (size_t i = 0; i < 4; i++)
+        for (size_t k = 0; k < 3; k++) {
+            loftsplice_filter f = fitted(bad[i], NULL, NULL, 0, NULL, NULL, 0);
+            f.state = states[k];
+            CALL_REFUSED(C, f, no_lists, LOFTSPLICE_SCAN);
+            CALL_REFUSED(C, f, l17, LOFTSPLICE_SCAN);
+            CALL_REFUSED(uneven, f, l17, LOFTSPLICE_SHAPE);
+            if (i < 3) REFUSED(loftsplice_filter_current(f), LOFTSPLICE_SCAN);
+            else if (states[k] == LOFTSPLICE_WITHIN) VALUE(loftsplice_filter_current(f), 21);
+            else NONE(loftsplice_filter_current(f));
+            loftsplice_reset r = loftsplice_filter_reset(f);
+            SAME(r.refusal, 0);
+            f.state = LOFTSPLICE_BEFORE;
+            FILTER(r.filter, f);
+        }
+    loftsplice_filter within_fresh = fitted(fresh(C), NULL, NULL, 0, NULL, NULL, 0);
+    within_fresh.state = LOFTSPLICE_WITHIN;
+    NONE(loftsplice_filter_current(within_fresh));
+    loftsplice_scan odd = {0, 9, 2, 20, LOFTSPLICE_AT, 2};
+    SAME(loftsplice_filter_new(odd, NULL, 0, NULL, 0, NULL, 0, NULL, 0).refusal, LOFTSPLICE_FORM);
 }
 
 static void filters(void) {
@@ -318,10 +402,10 @@ static void filters(void) {
 
     /* P10 */
     loftsplice_filter f = fitted(s, at_10, exclusive, 1, at_40, inclusive, 1);
-    SCAN(f.scan, 0, 9, 0, LOFTSPLICE_FRESH);
+    SCAN(f.scan, 0, 9, LOFTSPLICE_FRESH);
     LIMIT(f.lower, LOFTSPLICE_EXCLUSIVE, 10), LIMIT(f.upper, LOFTSPLICE_INCLUSIVE, 40), LIMIT(f.kept, LOFTSPLICE_FREE, 0);
     SAME(f.state, LOFTSPLICE_BEFORE);
-    NONE(loftsplice_filter_current(f, LISTS(C)));
+    NONE(loftsplice_filter_current(f));
     static const int64_t p10[] = {15, 20, 25, 30, 31, 40};
     loftsplice_filter walking = f;
     loftsplice_sifted m;
@@ -330,20 +414,20 @@ static void filters(void) {
         VALUE(m.answer, p10[i]);
         walking = m.filter;
         SAME(walking.state, LOFTSPLICE_WITHIN), LIMIT(walking.kept, LOFTSPLICE_INCLUSIVE, 40);
-        VALUE(loftsplice_filter_current(walking, LISTS(C)), p10[i]);
+        VALUE(loftsplice_filter_current(walking), p10[i]);
     }
-    SCAN(walking.scan, 0, 9, 6, LOFTSPLICE_AT);
+    SCAN_AT(walking.scan, 0, 9, 6, 40);
     m = next_of(walking, C, no_lists);
     NONE(m.answer), SAME(m.filter.state, LOFTSPLICE_AFTER), LIMIT(m.filter.kept, LOFTSPLICE_FREE, 0);
-    SCAN(m.filter.scan, 0, 9, 7, LOFTSPLICE_AT);
-    NONE(loftsplice_filter_current(m.filter, LISTS(C)));
+    SCAN_AT(m.filter.scan, 0, 9, 7, 140);
+    NONE(loftsplice_filter_current(m.filter));
     NONE(next_of(m.filter, C, no_lists).answer);
     m = seek_of(walking, C, 20, no_lists);
     VALUE(m.answer, 40);
 
     /* reset: Before, and the scan where it stands */
     loftsplice_reset r = loftsplice_filter_reset(walking);
-    SAME(r.refusal, 0), SAME(r.filter.state, LOFTSPLICE_BEFORE), SCAN(r.filter.scan, 0, 9, 6, LOFTSPLICE_AT);
+    SAME(r.refusal, 0), SAME(r.filter.state, LOFTSPLICE_BEFORE), SCAN_AT(r.filter.scan, 0, 9, 6, 40);
     LIMIT(r.filter.lower, LOFTSPLICE_EXCLUSIVE, 10), LIMIT(r.filter.upper, LOFTSPLICE_INCLUSIVE, 40), LIMIT(r.filter.kept, LOFTSPLICE_FREE, 0);
 
     /* P11 */
@@ -358,7 +442,7 @@ static void filters(void) {
     m = seek_of(f, C, 100, no_lists);
     VALUE(m.answer, 10), LIMIT(m.filter.kept, LOFTSPLICE_FREE, 0), SAME(m.filter.state, LOFTSPLICE_WITHIN);
     m = seek_of(m.filter, C, 100, no_lists);
-    VALUE(m.answer, 140), SCAN(m.filter.scan, 0, 9, 7, LOFTSPLICE_AT);
+    VALUE(m.answer, 140), SCAN_AT(m.filter.scan, 0, 9, 7, 140);
 
     /* variable bounds: above input 1, at most input 0 */
     static const uint64_t name_0[] = {0}, name_1[] = {1}, name_2[] = {2};
@@ -390,7 +474,7 @@ static void filters(void) {
     loftsplice_new_filter n = loftsplice_filter_new(s, many, 17, many_kinds, 17, NULL, 0, NULL, 0);
     SAME(n.refusal, LOFTSPLICE_BOUNDS);
     loftsplice_limit free_limit = {0, LOFTSPLICE_FREE};
-    loftsplice_filter no_filter = {{0, 0, 0, LOFTSPLICE_NO_STATE}, free_limit, free_limit, free_limit, LOFTSPLICE_NO_STATE};
+    loftsplice_filter no_filter = {{0, 0, 0, 0, LOFTSPLICE_NO_STATE, 0}, free_limit, free_limit, free_limit, LOFTSPLICE_NO_STATE};
     FILTER(n.filter, no_filter);
     n = loftsplice_filter_new(s, NULL, 0, NULL, 0, many, 17, many_kinds, 17);
     SAME(n.refusal, LOFTSPLICE_BOUNDS);
@@ -409,10 +493,10 @@ static void filters(void) {
     CALL_REFUSED(D, over_d, missing, LOFTSPLICE_ORDER);
     CALL_REFUSED(D, over_d, l17, LOFTSPLICE_BOUNDS);
     CALL_REFUSED(uneven, f, l17, LOFTSPLICE_SHAPE);
-    loftsplice_scan bad_scan = {0, 10, 0, LOFTSPLICE_FRESH};
+    loftsplice_scan bad_scan = {0, 10, 0, 0, LOFTSPLICE_FRESH, 0};
     loftsplice_filter over_bad = fitted(bad_scan, NULL, NULL, 0, NULL, NULL, 0);
     CALL_REFUSED(C, over_bad, l17, LOFTSPLICE_SCAN);
-    REFUSED(loftsplice_filter_current(over_bad, LISTS(C)), LOFTSPLICE_SCAN);
+    NONE(loftsplice_filter_current(over_bad));
 
     /* 100: lists of unequal length, kinds that are none, also in a list that is too long; before all others */
     n = loftsplice_filter_new(s, at_15, 2, both, 1, NULL, 0, NULL, 0);
@@ -433,7 +517,7 @@ static void filters(void) {
         one.upper_kinds = &k;
         if (!good) CALL_REFUSED(uneven, f, one, LOFTSPLICE_FORM);
     }
-    loftsplice_scan odd = {0, 9, 0, 3};
+    loftsplice_scan odd = {0, 9, 0, 0, 3, 0};
     n = loftsplice_filter_new(odd, NULL, 0, NULL, 0, NULL, 0, NULL, 0);
     SAME(n.refusal, LOFTSPLICE_FORM);
     lists short_found = l, bad_found = l, short_kinds = l;
@@ -442,14 +526,15 @@ static void filters(void) {
     CALL_REFUSED(C, f, bad_found, LOFTSPLICE_FORM);
     CALL_REFUSED(C, f, short_kinds, LOFTSPLICE_FORM);
 
-    /* every number of a filter that is to be a state or a kind, and is none */
-    loftsplice_filter bad[5] = {f, f, f, f, f};
+    /* every number of a filter that is to be a state, a kind or found, and is none */
+    loftsplice_filter bad[6] = {f, f, f, f, f, f};
     bad[0].scan.state = 3, bad[1].state = 3, bad[2].lower.kind = 3, bad[3].upper.kind = UINT32_MAX, bad[4].kept.kind = 4;
-    for (size_t i = 0; i < 5; i++) {
+    bad[5].scan.found = 2;
+    for (size_t i = 0; i < 6; i++) {
         bad[i].kept.value = 99;
         CALL_REFUSED(C, bad[i], no_lists, LOFTSPLICE_FORM);
         CALL_REFUSED(uneven, bad[i], l17, LOFTSPLICE_FORM);
-        REFUSED(loftsplice_filter_current(bad[i], LISTS(C)), LOFTSPLICE_FORM);
+        REFUSED(loftsplice_filter_current(bad[i]), LOFTSPLICE_FORM);
         r = loftsplice_filter_reset(bad[i]);
         SAME(r.refusal, LOFTSPLICE_FORM);
         FILTER(r.filter, bad[i]);
@@ -534,6 +619,7 @@ static void records(void) {
 int main(void) {
     columns();
     scans();
+    carried();
     filters();
     listings();
     records();
