@@ -186,7 +186,7 @@ impl<'a> Filter<'a> {
         )
     }
 
-    /// The element that the filter stands on, or none.
+    /// The element that the filter stands on, or none. Its scan carries it: the column is not looked at.
     ///
     /// ```
     /// let mut filter = loftsplice::Filter::new(loftsplice::Column::new(&[7], &[1], &[0])?.scan(), &[], &[])?;
@@ -196,9 +196,7 @@ impl<'a> Filter<'a> {
     /// # Ok::<(), loftsplice::Refusal>(())
     /// ```
     pub fn current(&self) -> Option<i64> {
-        let column = self.scan.column();
-        let answer =
-            raw::filter_current(self.filter, column.starts(), column.ends(), column.steps());
+        let answer = raw::filter_current(self.filter);
         (answer.found == 1).then_some(answer.value)
     }
 

@@ -6,7 +6,7 @@
 //! use loftsplice::raw;
 //!
 //! assert_eq!(raw::check(&[1, 2], &[3], &[0, 0]), 1);
-//! let scan = raw::Scan { start: 0, end: 3, index: 0, state: 77 };
+//! let scan = raw::Scan { start: 0, end: 3, index: 0, value: 0, state: 77, found: 0 };
 //! let moved = raw::scan_next(scan, &[1], &[3], &[0]);
 //! assert_eq!(moved.answer.refusal, raw::FORM);
 //! assert_eq!(moved.scan, scan);
@@ -18,7 +18,7 @@ pub use crate::sys::{
     scan_pos, scan_reset, scan_seek, write_record,
 };
 
-/// The refusal of a number that is no state or kind, and of two lists that belong together and differ in length; tried before all others.
+/// The refusal of a number that is no state, kind or `found`, and of two lists that belong together and differ in length; tried before all others.
 pub const FORM: u32 = 100;
 
 /// State of a scan: before its window's first element.
@@ -45,7 +45,8 @@ pub const EXCLUSIVE: u32 = 2;
 /// The state in a scan or filter that was refused when it was made: no state, so that each call on it is refused [`FORM`].
 pub const NO_STATE: u32 = u32::MAX;
 
-/// A window and a state; the index is read only when [`AT`], and given as 0 otherwise.
+/// A window and a state; the index is read only when [`AT`], and given as 0 otherwise. And what the scan carries: `found` 1 and the element that it is
+/// at, or 0, when fresh or ended; any other `found` is refused [`FORM`]. The value is read only where `found` is 1, and given as 0 where it is 0.
 #[repr(C)]
 #[derive(Clone, Copy, Debug, PartialEq, Eq)]
 pub struct Scan {
@@ -55,8 +56,12 @@ pub struct Scan {
     pub end: u64,
     /// An index.
     pub index: u64,
+    /// The value that is carried.
+    pub value: i64,
     /// A state.
     pub state: u32,
+    /// 1 or 0.
+    pub found: u32,
 }
 
 /// A bound, or none: kind [`FREE`] and value 0.

@@ -23,7 +23,7 @@ pub enum Refusal {
     Index,
     /// 5: window end above length.
     Window,
-    /// 6: the scan's window end is above length, or its index is outside its window.
+    /// 6: the scan's window end is above length, its index is outside its window, or it does not carry the element that it is at.
     Scan,
     /// 7: seek, filter or listing over a window that doesn't rise.
     Order,
@@ -39,7 +39,7 @@ pub enum Refusal {
     Kind,
     /// 13: length under 2 or over 57,346, or length minus 2 no multiple of 14.
     Size,
-    /// 100: a number that is no state or kind, or two lists that belong together and differ in length. Only [`crate::raw`] can give it.
+    /// 100: a number that is no state, kind or `found`, or two lists that belong together and differ in length. Only [`crate::raw`] can give it.
     Form,
     /// A number that this crate does not know.
     Other(u32),
@@ -52,7 +52,7 @@ const TABLE: [(Refusal, u32, &str, &str); 14] = [
     (Refusal::Reach, 3, "REACH", "a run's last element is outside i64"),
     (Refusal::Index, 4, "INDEX", "element asked at index ≥ length; place asked above length"),
     (Refusal::Window, 5, "WINDOW", "window end above length"),
-    (Refusal::Scan, 6, "SCAN", "the scan's window end is above length, or its index is outside its window"),
+    (Refusal::Scan, 6, "SCAN", "the scan's window end is above length, its index is outside its window, or it does not carry the element that it is at"),
     (Refusal::Order, 7, "ORDER", "seek, filter or listing over a window that doesn't rise"),
     (Refusal::Bounds, 8, "BOUNDS", "over 16 bounds in a list, over 8 inputs; over 256 windows or window lists of unequal length"),
     (Refusal::Input, 9, "INPUT", "a variable bound names an input that isn't there or has no value"),
@@ -60,7 +60,7 @@ const TABLE: [(Refusal, u32, &str, &str); 14] = [
     (Refusal::Cut, 11, "CUT", "fewer than 4 bytes, or fewer than the length says"),
     (Refusal::Kind, 12, "KIND", "kind is not 1"),
     (Refusal::Size, 13, "SIZE", "length under 2 or over 57,346, or length minus 2 no multiple of 14"),
-    (Refusal::Form, 100, "FORM", "a number that is no state or kind, or two lists that belong together and differ in length"),
+    (Refusal::Form, 100, "FORM", "a number that is no state, kind or `found`, or two lists that belong together and differ in length"),
 ];
 
 impl Refusal {

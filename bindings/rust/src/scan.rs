@@ -44,7 +44,7 @@ pub struct Scan<'a> {
 }
 
 impl<'a> Scan<'a> {
-    /// A scan that the library gave, of the same column: so no call on it is refused 1, 2, 3, 6 or 100.
+    /// A scan that the library gave, of the same column: so it carries the element that it is at, and no call on it is refused 1, 2, 3, 6 or 100.
     pub(crate) fn over(column: Column<'a>, scan: raw::Scan) -> Scan<'a> {
         Scan { column, scan }
     }
@@ -167,7 +167,7 @@ impl<'a> Scan<'a> {
         self.scan = raw::scan_reset(self.scan, column.starts(), column.ends(), column.steps()).scan;
     }
 
-    /// The element that the scan is at, or none.
+    /// The element that the scan is at, or none. The scan carries it: the column is not looked at.
     ///
     /// ```
     /// let mut scan = loftsplice::Column::new(&[7], &[3], &[2])?.scan();
@@ -177,8 +177,7 @@ impl<'a> Scan<'a> {
     /// # Ok::<(), loftsplice::Refusal>(())
     /// ```
     pub fn current(&self) -> Option<i64> {
-        let column = self.column;
-        let answer = raw::scan_current(self.scan, column.starts(), column.ends(), column.steps());
+        let answer = raw::scan_current(self.scan);
         (answer.found == 1).then_some(answer.value)
     }
 

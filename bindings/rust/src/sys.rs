@@ -98,15 +98,7 @@ extern "C" {
         steps: *const i16,
         steps_len: usize,
     ) -> Moved;
-    fn loftsplice_scan_current(
-        scan: Scan,
-        starts: *const i64,
-        starts_len: usize,
-        ends: *const u64,
-        ends_len: usize,
-        steps: *const i16,
-        steps_len: usize,
-    ) -> Answer;
+    fn loftsplice_scan_current(scan: Scan) -> Answer;
     fn loftsplice_scan_pos(
         scan: Scan,
         starts: *const i64,
@@ -170,15 +162,7 @@ extern "C" {
         input_found: *const u8,
         input_found_len: usize,
     ) -> Sifted;
-    fn loftsplice_filter_current(
-        filter: Filter,
-        starts: *const i64,
-        starts_len: usize,
-        ends: *const u64,
-        ends_len: usize,
-        steps: *const i16,
-        steps_len: usize,
-    ) -> Answer;
+    fn loftsplice_filter_current(filter: Filter) -> Answer;
     fn loftsplice_read_record(
         bytes: *const u8,
         bytes_len: usize,
@@ -355,7 +339,7 @@ pub fn diff_step(previous: i64, current: i64) -> Difference {
 /// use loftsplice::raw;
 ///
 /// let made = raw::scan_new(&[10, 30], &[4, 5], &[5, 0]);
-/// assert_eq!(made.scan, raw::Scan { start: 0, end: 5, index: 0, state: raw::FRESH });
+/// assert_eq!(made.scan, raw::Scan { start: 0, end: 5, index: 0, value: 0, state: raw::FRESH, found: 0 });
 /// ```
 pub fn scan_new(starts: &[i64], ends: &[u64], steps: &[i16]) -> NewScan {
     // SAFETY: each pointer and length are those of a slice that is borrowed for the whole call, and every number is allowed.
@@ -379,6 +363,7 @@ pub fn scan_new(starts: &[i64], ends: &[u64], steps: &[i16]) -> NewScan {
 /// let scan = raw::scan_new(&[10, 30], &[4, 5], &[5, 0]).scan;
 /// let moved = raw::scan_next(scan, &[10, 30], &[4, 5], &[5, 0]);
 /// assert_eq!((moved.answer.value, moved.scan.index, moved.scan.state), (10, 0, raw::AT));
+/// assert_eq!((moved.scan.found, moved.scan.value), (1, 10));
 /// ```
 pub fn scan_next(scan: Scan, starts: &[i64], ends: &[u64], steps: &[i16]) -> Moved {
     // SAFETY: each pointer and length are those of a slice that is borrowed for the whole call, and every number is allowed.
@@ -458,7 +443,7 @@ pub fn scan_narrow(
 /// ```
 /// use loftsplice::raw;
 ///
-/// let scan = raw::Scan { start: 1, end: 3, index: 2, state: raw::AT };
+/// let scan = raw::Scan { start: 1, end: 3, index: 2, value: 20, state: raw::AT, found: 1 };
 /// assert_eq!(raw::scan_reset(scan, &[10, 30], &[4, 5], &[5, 0]).scan.state, raw::FRESH);
 /// ```
 pub fn scan_reset(scan: Scan, starts: &[i64], ends: &[u64], steps: &[i16]) -> Moved {
@@ -476,27 +461,19 @@ pub fn scan_reset(scan: Scan, starts: &[i64], ends: &[u64], steps: &[i16]) -> Mo
     }
 }
 
-/// The element that the scan is at, or none; or refused 100, 1, 2, 3, 6.
+/// What the scan carries: the element that it is at, or none; or refused 100, 6. It looks at no column, so 6 is given only where a value is there when
+/// fresh or ended, or is missing at an index.
 ///
 /// ```
 /// use loftsplice::raw;
 ///
-/// let scan = raw::Scan { start: 1, end: 3, index: 2, state: raw::AT };
-/// assert_eq!(raw::scan_current(scan, &[10, 30], &[4, 5], &[5, 0]).value, 20);
+/// let scan = raw::Scan { start: 1, end: 3, index: 2, value: 20, state: raw::AT, found: 1 };
+/// assert_eq!(raw::scan_current(scan).value, 20);
+/// assert_eq!(raw::scan_current(raw::Scan { found: 0, ..scan }).refusal, 6);
 /// ```
-pub fn scan_current(scan: Scan, starts: &[i64], ends: &[u64], steps: &[i16]) -> Answer {
-    // SAFETY: each pointer and length are those of a slice that is borrowed for the whole call, and every number is allowed.
-    unsafe {
-        loftsplice_scan_current(
-            scan,
-            starts.as_ptr(),
-            starts.len(),
-            ends.as_ptr(),
-            ends.len(),
-            steps.as_ptr(),
-            steps.len(),
-        )
-    }
+pub fn scan_current(scan: Scan) -> Answer {
+    // SAFETY: only numbers are handed over, and every number is allowed.
+    unsafe { loftsplice_scan_current(scan) }
 }
 
 /// The index that the scan is at, or none; or refused 100, 1, 2, 3, 6.
@@ -504,7 +481,7 @@ pub fn scan_current(scan: Scan, starts: &[i64], ends: &[u64], steps: &[i16]) -> 
 /// ```
 /// use loftsplice::raw;
 ///
-/// let scan = raw::Scan { start: 1, end: 3, index: 2, state: raw::AT };
+/// let scan = raw::Scan { start: 1, end: 3, index: 2, value: 20, state: raw::AT, found: 1 };
 /// assert_eq!(raw::scan_pos(scan, &[10, 30], &[4, 5], &[5, 0]).index, 2);
 /// assert_eq!(raw::scan_pos(raw::Scan { index: 3, ..scan }, &[10, 30], &[4, 5], &[5, 0]).refusal, 6);
 /// ```
@@ -643,28 +620,19 @@ pub fn filter_seek(
     }
 }
 
-/// The element that the filter stands on when within, else none; or refused 100, 1, 2, 3, 6.
+/// What its scan carries when within, else none; or refused 100, 6, in any state of the filter: where [`scan_current`] of its scan is. It looks at no
+/// column.
 ///
 /// ```
 /// use loftsplice::raw;
 ///
 /// let scan = raw::scan_new(&[10, 30], &[4, 5], &[5, 0]).scan;
 /// let filter = raw::filter_new(scan, &[], &[], &[], &[]).filter;
-/// assert_eq!(raw::filter_current(filter, &[10, 30], &[4, 5], &[5, 0]).found, 0);
+/// assert_eq!(raw::filter_current(filter).found, 0);
 /// ```
-pub fn filter_current(filter: Filter, starts: &[i64], ends: &[u64], steps: &[i16]) -> Answer {
-    // SAFETY: each pointer and length are those of a slice that is borrowed for the whole call, and every number is allowed.
-    unsafe {
-        loftsplice_filter_current(
-            filter,
-            starts.as_ptr(),
-            starts.len(),
-            ends.as_ptr(),
-            ends.len(),
-            steps.as_ptr(),
-            steps.len(),
-        )
-    }
+pub fn filter_current(filter: Filter) -> Answer {
+    // SAFETY: only numbers are handed over, and every number is allowed.
+    unsafe { loftsplice_filter_current(filter) }
 }
 
 /// Before again, the scan as it stands; or refused 100.

@@ -99,6 +99,86 @@ fn every_refusal_has_its_number() {
 }
 
 #[test]
+fn a_value_that_does_not_belong_there_is_refused_and_comes_back() {
+    let (starts, ends, steps) = C;
+    let refused = |refusal| raw::Answer {
+        refusal,
+        found: 0,
+        value: 0,
+    };
+    let at = raw::Scan {
+        start: 0,
+        end: 9,
+        index: 2,
+        value: 20,
+        state: raw::AT,
+        found: 1,
+    };
+    assert_eq!(raw::scan_next(at, starts, ends, steps).answer.value, 25);
+    let fresh = raw::Scan {
+        state: raw::FRESH,
+        ..at
+    };
+    let ended = raw::Scan {
+        state: raw::ENDED,
+        ..at
+    };
+    let missing = raw::Scan { found: 0, ..at };
+    let wrong = raw::Scan { value: 21, ..at };
+    for (scan, current) in [
+        (fresh, None),
+        (ended, None),
+        (missing, None),
+        (wrong, Some(21)),
+    ] {
+        let answer = refused(6);
+        let back = raw::Moved { scan, answer };
+        assert_eq!(raw::scan_next(scan, starts, ends, steps), back);
+        assert_eq!(raw::scan_seek(scan, starts, ends, steps, 5), back);
+        assert_eq!(raw::scan_narrow(scan, starts, ends, steps, 0, 1), back);
+        assert_eq!(raw::scan_reset(scan, starts, ends, steps), back);
+        assert_eq!(raw::scan_pos(scan, starts, ends, steps).refusal, 6);
+        assert_eq!(raw::scan_next(scan, starts, &[], steps).answer.refusal, 1);
+        let said = current.map_or(answer, |value| raw::Answer {
+            refusal: 0,
+            found: 1,
+            value,
+        });
+        assert_eq!(raw::scan_current(scan), said);
+        let made = raw::filter_new(scan, &[], &[], &[], &[]).filter;
+        for state in [raw::BEFORE, raw::WITHIN, raw::AFTER] {
+            let filter = raw::Filter { state, ..made };
+            assert_eq!(
+                raw::filter_next(filter, starts, ends, steps, raw::Variables::default()),
+                raw::Sifted { filter, answer }
+            );
+            let within = current.filter(|_| state == raw::WITHIN);
+            assert_eq!(
+                raw::filter_current(filter),
+                raw::Answer {
+                    refusal: if current.is_none() { 6 } else { 0 },
+                    found: u32::from(within.is_some()),
+                    value: within.unwrap_or(0)
+                }
+            );
+        }
+    }
+    for found in (2..300).chain([u32::MAX]) {
+        let scan = raw::Scan { found, ..at };
+        let answer = refused(raw::FORM);
+        assert_eq!(
+            raw::scan_next(scan, starts, &[], steps),
+            raw::Moved { scan, answer }
+        );
+        assert_eq!(raw::scan_current(scan), answer);
+        assert_eq!(
+            raw::filter_new(scan, &[], &[], &[], &[]).refusal,
+            raw::FORM
+        );
+    }
+}
+
+#[test]
 fn bad_numbers_are_refused_and_come_back() {
     let (starts, ends, steps) = C;
     for state in (3..300).chain([u32::MAX]) {
@@ -106,7 +186,9 @@ fn bad_numbers_are_refused_and_come_back() {
             start: 1,
             end: 9,
             index: 77,
+            value: 66,
             state,
+            found: 0,
         };
         let answer = raw::Answer {
             refusal: raw::FORM,
@@ -121,7 +203,7 @@ fn bad_numbers_are_refused_and_come_back() {
             raw::scan_seek(scan, starts, &[], steps, 5),
             raw::Moved { scan, answer }
         );
-        assert_eq!(raw::scan_current(scan, starts, ends, steps), answer);
+        assert_eq!(raw::scan_current(scan), answer);
         let made = raw::filter_new(scan, &[], &[], &[], &[]);
         assert_eq!(
             (made.refusal, made.filter.state),
@@ -139,7 +221,9 @@ fn bad_numbers_are_refused_and_come_back() {
             start: 0,
             end: 9,
             index: 0,
+            value: 0,
             state: raw::FRESH,
+            found: 0,
         };
         let filter = raw::Filter {
             scan: fresh,
