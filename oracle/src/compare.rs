@@ -122,7 +122,7 @@ impl<'a> Bench<'a> {
 impl<'a> Sides<'a> {
     /// A scan with this window, fresh.
     fn fresh(column: &'a model::Column<'a>, start: u64, end: u64) -> Sides<'a> {
-        let scan = Scan { start, end, state: State::Fresh };
+        let scan = Scan::fresh(start, end);
         let model = model::Session { scan, ..model::Session::new(column) };
         Sides { model, port: port::Session::over(scan), alive: true }
     }
@@ -231,6 +231,8 @@ fn step<'a>(
     let mut look = m;
     let seen = [look.call(&LOOKS[0]), look.call(&LOOKS[1])];
     let sifted = m.filter.is_some().then(|| look.call(&Call::FilterCurrent));
+    // What the scan carries, by the port where it is there: the Rust's own `current` is compared with that too.
+    let mut carried = m.scan.value;
     tally.calls += 3 + u64::from(sifted.is_some());
     tally.refused += u64::from(refused);
 
@@ -246,6 +248,7 @@ fn step<'a>(
         sides.port = p;
         match got {
             Ok((g, scan, sieve, saw, sift)) => {
+                carried = scan.value;
                 if g != said || scan != m.scan || sieve != m.filter || saw != seen || sift != sifted {
                     let after = corpus::after(&scan, sieve.as_ref());
                     bench.report(tally, call, &m, &said, "the port", &format!("{g}{after} current, pos {saw:?}, filter's {sift:?}, {sieve:?}"));
@@ -273,8 +276,9 @@ fn step<'a>(
                 tally.rust += 3 + u64::from(sift.is_some());
                 if overflow {
                     bench.report(tally, call, &m, &said, "the Rust should have panicked and answered", &g.to_string());
-                } else if g != said || saw != seen || sift != sifted {
-                    bench.report(tally, call, &m, &said, "the Rust", &format!("{g} current, pos {saw:?}, filter's {sift:?}"));
+                } else if g != said || saw != seen || sift != sifted || saw[0] != carried.map_or(Said::None, Said::Value) {
+                    let text = format!("{g} current, pos {saw:?}, filter's {sift:?}; carried {carried:?}");
+                    bench.report(tally, call, &m, &said, "the Rust", &text);
                 }
                 bench.looks += 1;
                 if bench.look_every > 0 && bench.looks.is_multiple_of(bench.look_every) {
@@ -387,7 +391,7 @@ pub fn rust_alone(bench: &mut Bench, call: &Call, said: &Said) -> Option<Result<
         Call::Element(i) => Some(caught(|| Said::Value(column.get(*i)))),
         Call::List(l) => {
             let lower = l.lower.iter().max();
-            let far = |start, end| lower.is_some_and(|b| bench.column.overflows(&Scan { start, end, state: State::Fresh }, b.value));
+            let far = |start, end| lower.is_some_and(|b| bench.column.overflows(&Scan::fresh(start, end), b.value));
             if l.from.iter().zip(&l.to).any(|(&s, &e)| far(s, e)) {
                 return None;
             }

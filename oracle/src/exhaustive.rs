@@ -92,7 +92,7 @@ pub fn scans(runs: &Runs, depth: usize, tally: &mut Tally) {
     scans_by_hand(&mut bench, length, tally);
 }
 
-/// Scans that no call gives: ends above the length, indices outside the window.
+/// Scans that no call gives: ends above the length, indices outside the window, a value that is missing, is another, or does not belong there.
 fn scans_by_hand(bench: &mut Bench, length: u64, tally: &mut Tally) {
     let lists = Lists::default();
     let calls = [
@@ -111,7 +111,13 @@ fn scans_by_hand(bench: &mut Bench, length: u64, tally: &mut Tally) {
     for end in [0, length, length + 1, u64::MAX] {
         for start in [0, 1, length, u64::MAX] {
             for state in [State::Fresh, State::Ended, State::At(0), State::At(1), State::At(length), State::At(u64::MAX)] {
-                by_hand(bench, Scan { start, end, state }, &calls, tally);
+                let element = match state {
+                    State::At(i) if i < length => Some(bench.column.at(i)),
+                    _ => None,
+                };
+                for value in [element, element.map_or(Some(5), |_| None), Some(element.unwrap_or(5) + 1)] {
+                    by_hand(bench, Scan { start, end, state, value }, &calls, tally);
+                }
             }
         }
     }

@@ -66,14 +66,15 @@ fn kind(exclusive: bool) -> u8 {
 }
 
 impl Session {
-    /// A scan with this window and state, whatever they are.
+    /// A scan with this window, state and value, whatever they are.
     pub fn over(scan: Scan) -> Session {
         let (state, index) = match scan.state {
             State::Fresh => (raw::FRESH, 0),
             State::At(i) => (raw::AT, i),
             State::Ended => (raw::ENDED, 0),
         };
-        Session { scan: raw::Scan { start: scan.start, end: scan.end, index, state }, filter: None }
+        let (value, found) = (scan.value.unwrap_or(0), u32::from(scan.value.is_some()));
+        Session { scan: raw::Scan { start: scan.start, end: scan.end, index, value, state, found }, filter: None }
     }
 
     /// With a filter without constant bounds, Before.
@@ -92,7 +93,13 @@ impl Session {
             other => panic!("a scan's state {other}"),
         };
         assert!(s.state == raw::AT || s.index == 0, "an index where the scan is at none");
-        Scan { start: s.start, end: s.end, state }
+        let value = match s.found {
+            0 => None,
+            1 => Some(s.value),
+            other => panic!("a scan's found {other}"),
+        };
+        assert!(s.found == 1 || s.value == 0, "a value where the scan carries none");
+        Scan { start: s.start, end: s.end, state, value }
     }
 
     pub fn sieve(&self) -> Option<Sieve> {
@@ -123,7 +130,7 @@ impl Session {
             }
             Call::Next => self.moved(raw::scan_next(scan, starts, ends, steps)),
             Call::Seek(target) => self.moved(raw::scan_seek(scan, starts, ends, steps, *target)),
-            Call::Current => answer(raw::scan_current(scan, starts, ends, steps)),
+            Call::Current => answer(raw::scan_current(scan)),
             Call::Pos => {
                 let p = raw::scan_pos(scan, starts, ends, steps);
                 assert!(p.found == 1 || p.index == 0, "an index where there is none");
@@ -154,7 +161,7 @@ impl Session {
                 let f = self.held();
                 self.sifted(raw::filter_seek(f, starts, ends, steps, *target, desk.variables(lists)))
             }
-            Call::FilterCurrent => answer(raw::filter_current(self.held(), starts, ends, steps)),
+            Call::FilterCurrent => answer(raw::filter_current(self.held())),
             Call::FilterReset => {
                 let r = raw::filter_reset(self.held());
                 self.filter = Some(r.filter);

@@ -276,7 +276,18 @@ pub fn hand_calls(d: &mut Dice, c: &model::Column, values: &[i64]) -> (Scan, Vec
         _ => State::At(start),
     };
     let calls: Vec<Call> = (0..8).map(|_| call(d, c, values, true)).filter(|c| !matches!(c, Call::FilterNew(..))).collect();
-    (Scan { start, end, state }, calls)
+    let element = match state {
+        State::At(i) if c.check().is_ok_and(|length| i < length) => Some(c.at(i)),
+        State::At(_) => Some(value(d, c)),
+        _ => None,
+    };
+    // Now and then one that is missing, is another, or does not belong there.
+    let value = match d.below(8) {
+        0 => None,
+        1 | 2 => Some(value(d, c)),
+        _ => element,
+    };
+    (Scan { start, end, state, value }, calls)
 }
 
 /// A listing of windows that mostly rise, with room that is short, right or long; what it needs is asked of the model.

@@ -128,7 +128,7 @@ fn plain<T: ToString>(items: &[T]) -> String {
     items.iter().map(T::to_string).collect::<Vec<_>>().join(", ")
 }
 
-/// The line that the program writes for a call, from the Rust's answer, its `pos` and its private state; the window is the last one asked for.
+/// The line that the program writes for a call, from the Rust's answer, its `pos` and `current` and its private state; the window is the last one asked for.
 fn answered(session: &mut rust::Session, call: &Call, window: &mut (u64, u64)) -> String {
     if let Call::Narrow(start, end) = call {
         *window = (*start, *end);
@@ -160,7 +160,12 @@ fn answered(session: &mut rust::Session, call: &Call, window: &mut (u64, u64)) -
             Mode::Within(Some(b)) => format!(" within {} {}", if b.exclusive { "below" } else { "up to" }, b.value),
         },
     };
-    format!("{said}{mode} | {}..{} {state}\n", window.0, window.1)
+    // What the scan is to carry is the Rust's own `current`.
+    let carried = match session.call(&Call::Current) {
+        Said::Value(v) => format!(" ({v})"),
+        _ => String::new(),
+    };
+    format!("{said}{mode} | {}..{} {state}{carried}\n", window.0, window.1)
 }
 
 /// A call in Rattle. What it hands back is named only if a later call takes it.
@@ -181,7 +186,7 @@ fn spelt(call: &Call, later: &[Call]) -> String {
         Call::Seek(t) => keep("s", format!("seek(s, v, e, d, {t})")),
         Call::Reset => keep("s", "reset(s, v, e, d)".into()),
         Call::Narrow(a, b) => keep("s", format!("narrow(s, v, e, d, {a}, {b})")),
-        Call::Current => "current(s, v, e, d)".into(),
+        Call::Current => "current(s)".into(),
         Call::Pos => "pos(s, v, e, d)".into(),
         Call::FilterNew(l, u) => {
             let (l, u) = (list("b", l.iter().map(bound).collect()), list("b", u.iter().map(bound).collect()));
@@ -189,7 +194,7 @@ fn spelt(call: &Call, later: &[Call]) -> String {
         }
         Call::FilterNext(l) => keep("f", format!("fnext(f, v, e, d, {})", lists(l))),
         Call::FilterSeek(t, l) => keep("f", format!("fseek(f, v, e, d, {t}, {})", lists(l))),
-        Call::FilterCurrent => "fcurrent(f, v, e, d)".into(),
+        Call::FilterCurrent => "fcurrent(f)".into(),
         Call::FilterReset => keep("f", "freset(f)".into()),
         other => unreachable!("{other} is not in the sample"),
     }

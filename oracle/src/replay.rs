@@ -74,7 +74,7 @@ fn agrees(expected: &Expected, got: &Got, rust: bool) -> bool {
         _ => None,
     };
     let scan = match (&expected.scan, &got.scan) {
-        (Some(e), Some(g)) if rust => index(e) == index(g),
+        (Some(e), Some(g)) if rust => index(e) == index(g) && e.value == g.value,
         (Some(e), Some(g)) => e == g,
         (None, _) => true,
         (Some(_), None) => false,
@@ -110,7 +110,7 @@ fn by_model<'a>(case: &'a Case, column: &'a model::Column<'a>, raw: bool) -> Ans
 }
 
 fn by_port(case: &Case, column: &model::Column, raw: bool) -> Answers {
-    let whole = Scan { start: 0, end: column.check().unwrap_or(0), state: State::Fresh };
+    let whole = Scan::fresh(0, column.check().unwrap_or(0));
     let mut session = port::Session::over(whole);
     let mut set = whole;
     let mut desk = port::Desk::default();
@@ -171,7 +171,11 @@ fn by_rust(case: &Case, column: &model::Column, by_model: &Answers) -> Answers {
                             Said::Index(i) => State::At(i),
                             _ => State::Ended,
                         };
-                        Got { said, scan: Some(Scan { start: 0, end: 0, state }), mode: session.mode().map(|m| mode(&m)) }
+                        let value = match session.call(&Call::Current) {
+                            Said::Value(v) => Some(v),
+                            _ => None,
+                        };
+                        Got { said, scan: Some(Scan { start: 0, end: 0, state, value }), mode: session.mode().map(|m| mode(&m)) }
                     });
                     dead = answer.is_err();
                     Some(answer)

@@ -14,13 +14,13 @@ fn differences(text: &str) -> Vec<String> {
     found
 }
 
-/// P1 to P12 and document 02's places, with every side that is there.
+/// P1 to P12, document 02's places, and scans that do not carry what they stand on, with every side that is there.
 #[test]
 fn examples_of_the_documents() {
     let cases = corpus::cases(EXAMPLES).expect("the examples");
-    assert_eq!(cases.len(), 23);
+    assert_eq!(cases.len(), 25);
     let lines: usize = cases.iter().map(|c| c.lines.len()).sum();
-    assert_eq!(lines, 76);
+    assert_eq!(lines, 116);
     assert_eq!(differences(EXAMPLES), Vec::<String>::new());
 }
 
@@ -45,7 +45,7 @@ fn every_call_reads_back() {
         upper: vec![Bound { value: 2, exclusive: true }, Bound { value: u64::MAX, exclusive: false }],
         inputs: vec![Some(i64::MIN), None, Some(7)],
     };
-    let scan = Scan { start: u64::MAX, end: 3, state: State::At(9) };
+    let scan = Scan { start: u64::MAX, end: 3, state: State::At(9), value: Some(i64::MIN) };
     let listing = Listing { from: vec![], to: vec![1, 2], lower: vec![], upper: vec![], room: 0, counts: 5 };
     for call in [
         Call::FilterNext(lists.clone()),
@@ -56,6 +56,7 @@ fn every_call_reads_back() {
         Call::Reset,
         Call::Set(scan),
         Call::Set(Scan { state: State::Ended, ..scan }),
+        Call::Set(Scan::fresh(0, 7)),
         Call::List(listing),
         Call::Read(vec![], [1, 2, 3]),
         Call::Diff(i64::MIN, i64::MAX),
@@ -70,12 +71,14 @@ fn a_wrong_answer_is_noticed() {
     let lines: Vec<&str> = EXAMPLES.lines().collect();
     for (i, line) in lines.iter().enumerate().filter(|(_, l)| l.contains(" -> ")) {
         let (words, answer) = line.split_once(" -> ").unwrap();
-        // Another answer in place, and another index or state after it.
+        // Another answer in place, and another index or state, or another value carried, after it.
         let mut wrong = vec![answer.replacen(answer.split(" | ").next().unwrap(), "v 12345", 1)];
         if let Some((said, state)) = answer.split_once(" | ") {
-            let mut numbers: Vec<&str> = state.split(' ').collect();
-            numbers[2] = if numbers[2] == "8" { "7" } else { "8" };
-            wrong.push(format!("{said} | {}", numbers.join(" ")));
+            for (at, others) in [(2, ["8", "7"]), (3, ["-", "12345"])] {
+                let mut numbers: Vec<&str> = state.split(' ').collect();
+                numbers[at] = others[usize::from(numbers[at] == others[0])];
+                wrong.push(format!("{said} | {}", numbers.join(" ")));
+            }
         }
         for wrong in wrong {
             let mut text = lines.clone();
@@ -99,7 +102,10 @@ fn bad_files() {
         (&format!("{head}seek 9223372036854775808 -> none\nend\n"), "line 5"),
         (&format!("{head}next -> perhaps\nend\n"), "line 5"),
         (&format!("{head}next -> v 1 | 0 1\nend\n"), "line 5"),
-        (&format!("{head}next -> v 1 | 0 1 0 X\nend\n"), "line 5"),
+        (&format!("{head}next -> v 1 | 0 1 0\nend\n"), "line 5"),
+        (&format!("{head}next -> v 1 | 0 1 0 B\nend\n"), "line 5"),
+        (&format!("{head}next -> v 1 | 0 1 0 1 X\nend\n"), "line 5"),
+        (&format!("{head}set 0 1 0 -> ok\nend\n"), "line 5"),
         ("case 1 scan both\nstarts 1,,2\nend\n", "line 2"),
         (head, "ends inside a case"),
     ] {

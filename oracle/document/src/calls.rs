@@ -25,11 +25,13 @@ pub enum State {
     Ended,
 }
 
+/// A window, a state, and what the scan carries.
 #[derive(Clone, Copy, Debug, PartialEq, Eq)]
 pub struct Scan {
     pub start: u64,
     pub end: u64,
     pub state: State,
+    pub value: Option<i64>,
 }
 
 #[derive(Clone, Copy, Debug, PartialEq, Eq)]
@@ -115,6 +117,13 @@ impl Runs {
             made.steps.push(step);
         }
         made
+    }
+}
+
+impl Scan {
+    /// Before the window's first element.
+    pub fn fresh(start: u64, end: u64) -> Scan {
+        Scan { start, end, state: State::Fresh, value: None }
     }
 }
 

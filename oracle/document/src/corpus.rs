@@ -57,6 +57,13 @@ impl Display for State {
     }
 }
 
+impl Display for Scan {
+    fn fmt(&self, f: &mut std::fmt::Formatter<'_>) -> std::fmt::Result {
+        let carried = self.value.map_or("-".to_string(), |v| v.to_string());
+        write!(f, "{} {} {} {carried}", self.start, self.end, self.state)
+    }
+}
+
 impl Display for Lists {
     fn fmt(&self, f: &mut std::fmt::Formatter<'_>) -> std::fmt::Result {
         let inputs = self.inputs.iter().map(|i| i.map_or("?".to_string(), |v| v.to_string()));
@@ -83,7 +90,7 @@ impl Display for Call {
             Call::Place(i) => write!(f, "place {i}"),
             Call::Element(i) => write!(f, "element {i}"),
             Call::Diff(p, c) => write!(f, "diff {p} {c}"),
-            Call::Set(s) => write!(f, "set {} {} {}", s.start, s.end, s.state),
+            Call::Set(s) => write!(f, "set {s}"),
             Call::List(l) => write!(
                 f,
                 "list {} {} {} {} {} {}",
@@ -124,9 +131,9 @@ impl Display for Said {
     }
 }
 
-/// ` | <start> <end> <state>`, and the filter's mode where one is made.
+/// ` | <start> <end> <state> <carried>`, and the filter's mode where one is made.
 pub fn after(scan: &Scan, sieve: Option<&Sieve>) -> String {
-    let mut text = format!(" | {} {} {}", scan.start, scan.end, scan.state);
+    let mut text = format!(" | {scan}");
     match sieve.map(|s| s.mode) {
         None => {}
         Some(Mode::Before) => text.push_str(" B"),
@@ -197,6 +204,11 @@ fn state(word: &str) -> Parsed<State> {
     })
 }
 
+fn scan([start, end, at, carried]: [&str; 4]) -> Parsed<Scan> {
+    let value = if carried == "-" { None } else { Some(number(carried)?) };
+    Ok(Scan { start: number(start)?, end: number(end)?, state: state(at)?, value })
+}
+
 fn lists(words: &[&str]) -> Parsed<Lists> {
     let input = |w: &str| if w == "?" { Ok(None) } else { number(w).map(Some) };
     Ok(Lists { lower: items(words[0], bound)?, upper: items(words[1], bound)?, inputs: items(words[2], input)? })
@@ -225,7 +237,7 @@ pub fn call(text: &str) -> Parsed<Call> {
         ["place", i] => Call::Place(number(i)?),
         ["element", i] => Call::Element(number(i)?),
         ["diff", p, c] => Call::Diff(number(p)?, number(c)?),
-        ["set", s, e, at] => Call::Set(Scan { start: number(s)?, end: number(e)?, state: state(at)? }),
+        ["set", s, e, at, v] => Call::Set(scan([s, e, at, v])?),
         ["list", from, to, l, u, room, counts] => Call::List(Listing {
             from: items(from, number)?,
             to: items(to, number)?,
@@ -277,7 +289,7 @@ pub fn expected(text: &str) -> Parsed<Expected> {
         return Ok(Expected { said: said(text)?, scan: None, mode: None });
     };
     let words: Vec<&str> = rest.split(' ').filter(|w| !w.is_empty()).collect();
-    let (&[start, end, at], mode) = words.split_first_chunk::<3>().ok_or_else(|| format!("'{rest}' is no scan"))?;
+    let (&numbers, mode) = words.split_first_chunk::<4>().ok_or_else(|| format!("'{rest}' is no scan"))?;
     let mode = match mode {
         [] => None,
         ["B"] => Some(Mode::Before),
@@ -286,8 +298,7 @@ pub fn expected(text: &str) -> Parsed<Expected> {
         ["W", b] => Some(Mode::Within(Some(bound(b)?))),
         _ => return Err(format!("'{rest}' has no filter's state at its end")),
     };
-    let scan = Scan { start: number(start)?, end: number(end)?, state: state(at)? };
-    Ok(Expected { said: said(answer)?, scan: Some(scan), mode })
+    Ok(Expected { said: said(answer)?, scan: Some(scan(numbers)?), mode })
 }
 
 /// The cases of a file, in order. An error names its line.

@@ -185,7 +185,7 @@ impl<'a> Session<'a> {
     /// "A new scan has the whole column." On a column that is refused: an empty window, which no call accepts.
     pub fn new(column: &'a Column<'a>) -> Self {
         let end = column.check.unwrap_or(0);
-        Session { column, scan: Scan { start: 0, end, state: State::Fresh }, filter: None, overflow: false }
+        Session { column, scan: Scan::fresh(0, end), filter: None, overflow: false }
     }
 
     pub fn call(&mut self, call: &Call) -> Said {
@@ -209,10 +209,7 @@ impl<'a> Session<'a> {
                 self.ordered()?;
                 said(self.seek(*target))
             }
-            Call::Current => {
-                self.tried()?;
-                said(self.current())
-            }
+            Call::Current => said(self.carried()?),
             Call::Pos => {
                 self.tried()?;
                 match self.scan.state {
@@ -222,12 +219,12 @@ impl<'a> Session<'a> {
             }
             Call::Reset => {
                 self.tried()?;
-                self.scan.state = State::Fresh;
+                self.scan = Scan::fresh(self.scan.start, self.scan.end);
                 Said::Ok
             }
             Call::Narrow(start, end) => {
                 refuse_if(*end > self.tried()?, WINDOW)?;
-                self.scan = Scan { start: *start, end: *end, state: State::Fresh };
+                self.scan = Scan::fresh(*start, *end);
                 Said::Ok
             }
             Call::FilterNew(lower, upper) => {
@@ -240,9 +237,10 @@ impl<'a> Session<'a> {
             Call::FilterNext(lists) => self.sift(None, lists)?,
             Call::FilterSeek(target, lists) => self.sift(Some(*target), lists)?,
             Call::FilterCurrent => {
-                self.tried()?;
+                // "the filter's the same when Within, else none"
+                let carried = self.carried()?;
                 match self.sieve().mode {
-                    Mode::Within(_) => said(self.current()),
+                    Mode::Within(_) => said(carried),
                     _ => Said::None,
                 }
             }
@@ -277,10 +275,20 @@ impl<'a> Session<'a> {
     /// 1, 2, 3 and 6; the length.
     fn tried(&self) -> Outcome<u64> {
         let length = self.column.check?;
-        let Scan { start, end, state } = self.scan;
+        let Scan { start, end, state, .. } = self.scan;
         let outside = matches!(state, State::At(i) if i < start || i >= end);
         refuse_if(end > length || outside, SCAN)?;
+        // Document 02, request 8: ".. and where the carried value is not the column's element at that index".
+        let carried = self.carried()?;
+        refuse_if(matches!(state, State::At(i) if carried != Some(self.column.at(i))), SCAN)?;
         Ok(length)
+    }
+
+    /// Document 02, request 8: "refuses 6 only where a value is there when fresh or ended or missing at an index"; what is carried.
+    fn carried(&self) -> Outcome<Option<i64>> {
+        let at = matches!(self.scan.state, State::At(_));
+        refuse_if(at != self.scan.value.is_some(), SCAN)?;
+        Ok(self.scan.value)
     }
 
     /// 7
@@ -288,11 +296,11 @@ impl<'a> Session<'a> {
         refuse_if(!self.column.rises(self.scan.start, self.scan.end), ORDER)
     }
 
-    fn current(&self) -> Option<i64> {
-        match self.scan.state {
-            State::At(i) => Some(self.column.at(i)),
-            _ => None,
-        }
+    /// To an index, or past the window. "The scan shall carry the element that it stands on, none when fresh or ended".
+    fn stand(&mut self, to: Option<u64>) -> Option<i64> {
+        self.scan.state = to.map_or(State::Ended, State::At);
+        self.scan.value = to.map(|i| self.column.at(i));
+        self.scan.value
     }
 
     /// "fresh goes to the window's first index, an index to the one after it; past the window is ended; ended stays ended."
@@ -302,8 +310,7 @@ impl<'a> Session<'a> {
             State::At(i) => Some(i + 1),
             State::Ended => None,
         };
-        self.scan.state = to.filter(|&i| i < self.scan.end).map_or(State::Ended, State::At);
-        self.current()
+        self.stand(to.filter(|&i| i < self.scan.end))
     }
 
     /// "from the current index (fresh: from the window's start) to the first index whose element is not below the target. It may stay. If there
@@ -316,8 +323,7 @@ impl<'a> Session<'a> {
             State::Ended => None,
         };
         let found = from.and_then(|i| self.column.first_from(i, self.scan.end, target));
-        self.scan.state = found.map_or(State::Ended, State::At);
-        self.current()
+        self.stand(found)
     }
 
     /// `next` (no target) and `seek` of the filter.
@@ -356,14 +362,14 @@ impl<'a> Session<'a> {
         };
         self.filter = Some(Sieve { mode, ..sieve });
         Ok(match mode {
-            Mode::Within(_) => said(self.current()),
+            Mode::Within(_) => said(self.scan.value),
             _ => Said::None,
         })
     }
 
     /// "If the scan is at an element within the upper bound, the filter is Within and keeps that upper bound; else After."
     fn judged(&self, upper: Option<Constant>) -> Mode {
-        match self.current() {
+        match self.scan.value {
             Some(v) if upper.is_none_or(|u| v < u.value || (v == u.value && !u.exclusive)) => Mode::Within(upper),
             _ => Mode::After,
         }
