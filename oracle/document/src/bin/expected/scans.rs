@@ -22,8 +22,11 @@ pub fn scanned() -> String {
         "new, narrow 3 8, next, seek 200, narrow 0 9, narrow 3 3, next, narrow 8 2, next, narrow 18446744073709551615 4, \
          seek -9223372036854775808, narrow 0 10",
     );
-    play(&mut out, &c(), "set 0 10 F, next, narrow 0 1, reset");
-    play(&mut out, &c(), "set 2 4 4, seek 0, current, pos");
+    play(&mut out, &c(), "set 0 10 F -, next, narrow 0 1, reset");
+    play(&mut out, &c(), "set 2 4 4 30, seek 0, current, pos");
+    for misled in ["2 21", "2 -", "F 10", "E 240"] {
+        play(&mut out, &c(), &format!("set 0 9 {misled}, next, reset, current, pos"));
+    }
     out += "D\n";
     play(&mut out, &d(), FALLING);
     out += "far\n";
@@ -38,21 +41,21 @@ pub fn lending() -> String {
     play(
         &mut out,
         &c(),
-        "set 0 9 F, next, next, seek 26, seek 12, next, reset, next, narrow 3 8, next, narrow 0 10, seek 200, next, reset, \
+        "set 0 9 F -, next, next, seek 26, seek 12, next, reset, next, narrow 3 8, next, narrow 0 10, seek 200, next, reset, \
          seek -9223372036854775808",
     );
     out += "D\n";
-    play(&mut out, &d(), "set 0 5 F, seek 6, next, seek 6, narrow 1 5, seek 7, next, next");
+    play(&mut out, &d(), "set 0 5 F -, seek 6, next, seek 6, narrow 1 5, seek 7, next, next");
     out += "an end above the length, an index outside the window\n";
-    play(&mut out, &c(), &format!("set 0 10 F, {EACH}"));
-    play(&mut out, &c(), &format!("set 2 4 4, {EACH}"));
+    play(&mut out, &c(), &format!("set 0 10 F -, {EACH}"));
+    play(&mut out, &c(), &format!("set 2 4 4 30, {EACH}"));
     out += "damaged\n";
     for runs in [
         arrays(&[10], &[2, 5], &[-5, 1]),
         arrays(&[10, 6], &[2, 2], &[-5, 1]),
         arrays(&[i64::MAX], &[5], &[1]),
     ] {
-        play(&mut out, &runs, &format!("set 1 3 2, {EACH}"));
+        play(&mut out, &runs, &format!("set 1 3 2 6, {EACH}"));
     }
     out
 }
@@ -65,7 +68,7 @@ fn play(out: &mut String, runs: &Runs, calls: &str) {
         let said = session.call(&call);
         if call == Call::New && matches!(said, Said::Refused(_)) {
             // The program goes on with a scan that has ended.
-            session.scan = Scan { start: 0, end: 0, state: State::Ended };
+            session.scan = Scan { state: State::Ended, ..Scan::fresh(0, 0) };
         }
         *out += &line(&call, &said, &session.scan);
     }
@@ -74,10 +77,11 @@ fn play(out: &mut String, runs: &Runs, calls: &str) {
 fn line(call: &Call, said: &Said, scan: &Scan) -> String {
     let mut after = format!(" | {}..{} ", scan.start, scan.end);
     match scan.state {
-        State::Fresh => after += "fresh\n",
-        State::At(i) => writeln!(after, "{i}").unwrap(),
-        State::Ended => after += "ended\n",
+        State::Fresh => after += "fresh",
+        State::At(i) => write!(after, "{i}").unwrap(),
+        State::Ended => after += "ended",
     }
+    after += &scan.value.map_or("\n".into(), |v| format!(" ({v})\n"));
     let answer = told(said);
     match call {
         Call::Set(_) => String::new(),
