@@ -115,7 +115,10 @@ fn scans_by_hand(bench: &mut Bench, length: u64, tally: &mut Tally) {
                     State::At(i) if i < length => Some(bench.column.at(i)),
                     _ => None,
                 };
-                for value in [element, element.map_or(Some(5), |_| None), Some(element.unwrap_or(5) + 1)] {
+                // Values that do not belong there are tried in windows that end with the column.
+                let others = [element.map_or(Some(5), |_| None), Some(element.unwrap_or(5) + 1)];
+                let others = if end == length { &others[..] } else { &[] };
+                for value in std::iter::once(&element).chain(others).copied() {
                     by_hand(bench, Scan { start, end, state, value }, &calls, tally);
                 }
             }

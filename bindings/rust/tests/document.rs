@@ -171,10 +171,7 @@ fn a_value_that_does_not_belong_there_is_refused_and_comes_back() {
             raw::Moved { scan, answer }
         );
         assert_eq!(raw::scan_current(scan), answer);
-        assert_eq!(
-            raw::filter_new(scan, &[], &[], &[], &[]).refusal,
-            raw::FORM
-        );
+        assert_eq!(raw::filter_new(scan, &[], &[], &[], &[]).refusal, raw::FORM);
     }
 }
 
