@@ -34,30 +34,30 @@ use Rattle.theorems.proofs.Moves.{Restricted, fresh-restricted, restric
 -- ---- a filter after its first call
 
 -- its scan has the window s..e, and no input is read any more
-pub record Begun (s e : ℕ) (f : Filter) : Type 0 where
-  pub scan : Restricted s e (f .scan)
+pub record Begun (q : Sequence) (s e : ℕ) (f : Filter) : Type 0 where
+  pub scan : Restricted q s e (f .scan)
   pub reads-none : (k : Call) → unread k (f .state) ≡ false
 
 module _ (q : Sequence) (s e : ℕ) where
-  settle-begun : (f : Filter) (up : Limit) (m : Outcome) → Restricted s e (m .scan) → Begun s e (settle f up m .filter)
+  settle-begun : (f : Filter) (up : Limit) (m : Outcome) → Restricted q s e (m .scan) → Begun q s e (settle f up m .filter)
   unfolding settle
   settle-begun f up m r = either (accepts up (m .said)) (λ t. rw t (record { scan = r; reads-none = λ k. refl })) (λ t. rw t (record { scan = r; reads-none = λ k. refl }))
 
-  lead-restricted : (l : Lead) (c : Scan) → Restricted s e c → Restricted s e (leadFrom q l c .scan)
+  pub lead-restricted : (l : Lead) (c : Scan) → Restricted q s e c → Restricted q s e (leadFrom q l c .scan)
   unfolding leadFrom onPast
   lead-restricted Stay c r = r
   lead-restricted (Go m) c r = move-restricted q c m r
   lead-restricted (Past x) c r =
       let m = moveScan q (Seek x) c in
-      let h : Restricted s e (m .scan) = move-restricted q c (Seek x) r in
+      let h : Restricted q s e (m .scan) = move-restricted q c (Seek x) r in
       either (found x (m .said)) (λ t. rw t (move-restricted q (m .scan) Next h)) (λ t. rw t h)
 
   -- what any step leaves
-  pub step-begun : (k : Call) (f : Filter) → Restricted s e (f .scan) → Begun s e (stepFrom q k f (f .state) .filter)
+  pub step-begun : (k : Call) (f : Filter) → Restricted q s e (f .scan) → Begun q s e (stepFrom q k f (f .state) .filter)
   unfolding stepFrom
   step-begun k f r = by (f .state) refl
     where
-      by : (w : FilterState) → f .state ≡ w → Begun s e (stepFrom q k f w .filter)
+      by : (w : FilterState) → f .state ≡ w → Begun q s e (stepFrom q k f w .filter)
       by Before h = settle-begun f (upperOf f k) _ (lead-restricted (leadTo (raised (k .move) (lowerOf f k))) (f .scan) r)
       by (Within up) h = settle-begun f up _ (lead-restricted (Go (k .move)) (f .scan) r)
       by After h = record { scan = r; reads-none = λ k. rw h }
@@ -65,7 +65,7 @@ module _ (q : Sequence) (s e : ℕ) where
 module _ (p : Source) (s e : ℕ) where
   -- ---- which calls are accepted on a filter whose scan has the window s..e
 
-  call-test : (k : Call) (f : Filter) → Restricted s e (f .scan) → accepted (callOf p k f .said) ≡ (risingWindow p s e && not (tooMany k) && not (unread k (f .state)))
+  call-test : (k : Call) (f : Filter) → Restricted (p .sequence) s e (f .scan) → accepted (callOf p k f .said) ≡ (risingWindow p s e && not (tooMany k) && not (unread k (f .state)))
   unfolding risingWindow
   call-test k f r =
       let q = p .sequence in
@@ -75,14 +75,14 @@ module _ (p : Source) (s e : ℕ) where
       test ∙ rw (restricted-bad q (f .scan) r, r .same-start, r .same-end)
       (ap (λ t. t && not (unread k (f .state))) (and-swap (soundSource p && not (ltb (q .size) e)) (not (tooMany k)) (rises q s e)))
 
-  later-test : (ks : List Call) (f : Filter) → Begun s e f → every accepted (answersOf p f ks) ≡ every (λ k. risingWindow p s e && not (tooMany k)) ks
+  later-test : (ks : List Call) (f : Filter) → Begun (p .sequence) s e f → every accepted (answersOf p f ks) ≡ every (λ k. risingWindow p s e && not (tooMany k)) ks
   unfolding every answersOf
   later-test [] f g = refl
   later-test (k ∷ ks) f g =
       rw (call-test k f (g .scan), g .reads-none k, and-true (risingWindow p s e && not (tooMany k)))
       (ap (λ t. risingWindow p s e && not (tooMany k) && t) (later-test ks (callOf p k f .filter) next))
     where
-      next : Begun s e (callOf p k f .filter)
+      next : Begun (p .sequence) s e (callOf p k f .filter)
       next = either (accepted (callOf p k f .said)) (λ t. rw (call-does p f k t) (step-begun (p .sequence) s e k f (g .scan))) (λ t. rw (call-keeps p f k t) g)
 
 gather : (w m d r rest : Bool) → ((w && m && d) ≡ true → rest ≡ r) → (w && m && d && rest) ≡ (w && (m && r) && d)
@@ -105,11 +105,11 @@ accepted-exactly-if p s e lows ups k ks =
     W = risingWindow p s e
 
     first : accepted (callOf p k f .said) ≡ (W && not (tooMany k) && allReadable k)
-    first = call-test p s e k f (fresh-restricted s e) ∙ ap (λ t. W && not (tooMany k) && t) (not-not (allReadable k))
+    first = call-test p s e k f (fresh-restricted (p .sequence) s e) ∙ ap (λ t. W && not (tooMany k) && t) (not-not (allReadable k))
 
     rest : (W && not (tooMany k) && allReadable k) ≡ true → every accepted (answersOf p (callOf p k f .filter) ks) ≡ every (λ k. not (tooMany k)) ks
     rest h =
-        later-test p s e ks (callOf p k f .filter) (rw (call-does p f k (first ∙ h)) (step-begun (p .sequence) s e k f (fresh-restricted s e)))
+        later-test p s e ks (callOf p k f .filter) (rw (call-does p f k (first ∙ h)) (step-begun (p .sequence) s e k f (fresh-restricted (p .sequence) s e)))
         ∙ ap (λ t. every (λ (k : Call). t && not (tooMany k)) ks) (and-left W (not (tooMany k)) (and-left (W && not (tooMany k)) (allReadable k) h))
 
 -- ---- constant bounds alone

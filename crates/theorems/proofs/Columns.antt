@@ -128,6 +128,6 @@ empty-window start end i l = ⊎-elim
     (lt-or-ge i start)
 
 -- a scan that is fresh on it ends with its first move, and gives nothing
-pub empty-next : (q : Sequence) (start end : ℕ) → end ≤ start → nextFrom q (fresh start end) Fresh ≡ record { scan = put (fresh start end) Ended; said = Gives none }
+pub empty-next : (q : Sequence) (start end : ℕ) → end ≤ start → nextFrom q (fresh start end) Fresh ≡ record { scan = put q (fresh start end) Ended; said = Gives none }
 unfolding nextFrom goTo
 empty-next q start end l = rw (le-ltb start end l)

@@ -19,14 +19,16 @@ use Rattle.loftsplice.specs.declared.scan.State.the-variants.{Fresh, At, Ended}
 use Rattle.loftsplice.specs.declared.scan.Scan.{Scan}
 use Rattle.bounds.specs.declared.Bounds.{Bounds}
 use Rattle.filter_interval.specs.declared.Filter.{Filter}
-use Rattle.loftsplice.specs.Scan.{Outcome, fresh, put, nextFrom, seekFrom, elementIn, indexIn, badScan, outside, newOf, nextOf, seekOf, narrowOf, resetOf, currentOf, posOf}
+use Rattle.loftsplice.specs.Scan.{Outcome, fresh, put, nextFrom, seekFrom, elementIn, indexIn, badScan, newOf, nextOf, seekOf, narrowOf, resetOf, currentOf, posOf}
+use Rattle.loftsplice.proofs.ScanCases.{index-below, put-same}
 use Rattle.bounds.specs.Bounds.{bounds}
 use Rattle.filter_interval.specs.Filter.{newFilter, fitOf, filterResetOf}
 use Rattle.theorems.specs.Exact.{accepted}
 use Rattle.theorems.specs.Runs.{standsIn, standing}
-use Rattle.theorems.proofs.ScanCalls.{new-accepts, new-does, next-accepts, next-does, seek-accepts, seek-does, narrow-accepts, narrow-does, reset-accepts, reset-does, current-accepts, current-does, pos-accepts, pos-does}
+use Rattle.theorems.proofs.ScanCalls.{new-accepts, new-does, next-accepts, next-does, seek-accepts, seek-does, narrow-accepts, narrow-does, reset-accepts, reset-does, pos-accepts, pos-does}
 use Rattle.theorems.proofs.FilterCalls.{fit-does}
-use Rattle.theorems.proofs.Moves.{reached, to-inside, Landing, seek-lands, Restricted, in-place, below-end, move-restricted}
+use Rattle.theorems.proofs.Carried.{sound-current}
+use Rattle.theorems.proofs.Moves.{reached, to-inside, Landing, seek-lands, Restricted, unmoved, move-restricted}
 
 -- ---- seek
 
@@ -49,10 +51,10 @@ module _ (p : Source) (s : Scan) (x : ℤ) where
   sought-lands ok = rw (seek-does p s x ok) (seek-lands q x s (s .state))
 
   -- "Find the next value that is at least as large as the given value, advance the iterator to this position, and return the value."
-  pub seek-finds : (v : ℤ) → sought .said ≡ Gives (some v) → (j : ℕ) × (standing s ≤ j) × (sought .scan ≡ put s (At j)) × (q .at j ≡ v) × (ltZ v x ≡ false)
+  pub seek-finds : (v : ℤ) → sought .said ≡ Gives (some v) → (j : ℕ) × (standing s ≤ j) × (sought .scan ≡ put q s (At j)) × (q .at j ≡ v) × (ltZ v x ≡ false)
   seek-finds v h = by (sought-lands (ap accepted h))
     where
-      by : Sought → (j : ℕ) × (standing s ≤ j) × (sought .scan ≡ put s (At j)) × (q .at j ≡ v) × (ltZ v x ≡ false)
+      by : Sought → (j : ℕ) × (standing s ≤ j) × (sought .scan ≡ put q s (At j)) × (q .at j ≡ v) × (ltZ v x ≡ false)
       by (inl g) =
           let z : Gives (some (q .at (g .index))) ≡ Gives (some v) = ap (λ (o : Outcome). o .said) (sym (g .arrives)) ∙ h in
           let is : q .at (g .index) ≡ v = cc in
@@ -61,7 +63,7 @@ module _ (p : Source) (s : Scan) (x : ℤ) where
 
   module _ (ok : accepted (sought .said) ≡ true) where
     -- "If multiple candidates exist, the iterator should be advanced to the first such value."
-    pub seek-first : (j : ℕ) → sought .scan ≡ put s (At j) → (k : ℕ) → Candidate k → j ≤ k
+    pub seek-first : (j : ℕ) → sought .scan ≡ put q s (At j) → (k : ℕ) → Candidate k → j ≤ k
     seek-first j e k c = by (sought-lands ok)
       where
         by : Sought → j ≤ k
@@ -87,20 +89,23 @@ module _ (p : Source) (s : Scan) (x : ℤ) where
         here : standing s ≡ i
         here = ap (standsIn s) there
 
+        good : badScan q s ≡ false
+        good = seek-accepts p s x .0 ok .1
+
         inside : i < s .end
-        inside = below-end q s i (ap (outside s) (sym there) ∙ in-place q s (seek-accepts p s x .0 ok .1))
+        inside = index-below q s good i there
 
         by : Sought → sought ≡ record { scan = s; said = Gives (some (q .at i)) }
         by (inl g) =
             let is : g .index ≡ i = ⊎-elim (λ (l : i < g .index). clash (g .first i (omega (arith, here)) l) enough)
             (λ (l : g .index ≤ i). omega (arith, here, g .from)) (lt-or-ge i (g .index)) in
-            g .arrives ∙ ap (reached q s) is ∙ ap (λ (t : State). record { scan = put s t; said = Gives (some (q .at i)) }) (sym there)
+            g .arrives ∙ ap (reached q s) is ∙ ap (λ (t : Scan). record { scan = t; said = Gives (some (q .at i)) }) (sym (put-same q s good (At i) there))
         by (inr g) = clash (g .below i (omega (arith, here)) inside) enough
 
     -- what no sentence says: an ended scan stays as it is, and answers none
     pub seek-ended : s .state ≡ Ended → sought ≡ record { scan = s; said = Gives none }
     unfolding seekFrom
-    seek-ended e = seek-does p s x ok ∙ ap (seekFrom q x s) e ∙ ap (λ (t : State). record { scan = put s t; said = Gives none }) (sym e)
+    seek-ended e = seek-does p s x ok ∙ ap (seekFrom q x s) e ∙ ap (λ (t : Scan). record { scan = t; said = Gives none }) (sym (put-same q s (seek-accepts p s x .0 ok .1) Ended e))
 
 -- ---- current, pos
 
@@ -125,18 +130,18 @@ index-none Ended = (λ e. inr refl, λ e. refl)
 
 module _ (p : Source) (s : Scan) where
   -- where one is accepted so is the other, and the element is that at the index
-  current-is : (at : Option ℕ) → posOf p s ≡ Gives at → currentOf p s ≡ Gives (Option·map (p .sequence .at) at)
+  current-is : (at : Option ℕ) → posOf p s ≡ Gives at → currentOf s ≡ Gives (Option·map (p .sequence .at) at)
   current-is at h =
       let e : Gives (indexIn (s .state)) ≡ Gives at = sym (pos-does p s (ap accepted h)) ∙ h in
       let is : indexIn (s .state) ≡ at = cc in
-      current-does p s (current-accepts p s .1 (pos-accepts p s .0 (ap accepted h))) ∙ ap Gives (element-at (p .sequence) (s .state) ∙ ap (Option·map (p .sequence .at)) is)
+      sound-current (p .sequence) s (pos-accepts p s .0 (ap accepted h) .1) ∙ ap Gives (element-at (p .sequence) (s .state) ∙ ap (Option·map (p .sequence .at)) is)
 
   -- "Return the value at the current position, ..
-  pub current-at : (i : ℕ) → posOf p s ≡ Gives (some i) → currentOf p s ≡ Gives (some (p .sequence .at i))
+  pub current-at : (i : ℕ) → posOf p s ≡ Gives (some i) → currentOf s ≡ Gives (some (p .sequence .at i))
   current-at i = current-is (some i)
 
   -- .. if any."
-  pub current-none : posOf p s ≡ Gives none → currentOf p s ≡ Gives none
+  pub current-none : posOf p s ≡ Gives none → currentOf s ≡ Gives none
   current-none = current-is none
 
   -- "Return the current position of this iterator, ..
@@ -163,15 +168,12 @@ module _ (p : Source) (s : Scan) where
         rw (narrow-does p s start end ok)
         (next-does p (fresh start end) (next-accepts p (fresh start end) .1 (n .0, good)) ∙ to-inside (p .sequence) (fresh start end) start l)
 
-  unmoved : badScan (p .sequence) s ≡ false → Restricted (s .start) (s .end) s
-  unmoved h = record { same-start = refl; same-end = refl; inside = in-place (p .sequence) s h }
-
   -- and next and seek keep the window and keep to it
-  pub next-restricted : accepted (nextOf p s .said) ≡ true → Restricted (s .start) (s .end) (nextOf p s .scan)
-  next-restricted h = rw (next-does p s h) (move-restricted (p .sequence) s Next (unmoved (next-accepts p s .0 h .1)))
+  pub next-restricted : accepted (nextOf p s .said) ≡ true → Restricted (p .sequence) (s .start) (s .end) (nextOf p s .scan)
+  next-restricted h = rw (next-does p s h) (move-restricted (p .sequence) s Next (unmoved (p .sequence) s (next-accepts p s .0 h .1)))
 
-  pub seek-restricted : (x : ℤ) → accepted (seekOf p x s .said) ≡ true → Restricted (s .start) (s .end) (seekOf p x s .scan)
-  seek-restricted x h = rw (seek-does p s x h) (move-restricted (p .sequence) s (Seek x) (unmoved (seek-accepts p s x .0 h .1)))
+  pub seek-restricted : (x : ℤ) → accepted (seekOf p x s .said) ≡ true → Restricted (p .sequence) (s .start) (s .end) (seekOf p x s .scan)
+  seek-restricted x h = rw (seek-does p s x h) (move-restricted (p .sequence) s (Seek x) (unmoved (p .sequence) s (seek-accepts p s x .0 h .1)))
 
   -- ---- reset
 

@@ -5,13 +5,13 @@ use mathlib.Core.Bool.{true, false, not}
 use mathlib.Core.List.{List, [], _∷_, _++_}
 use mathlib.Core.Option.{none}
 use native.Mathlib.Omega.{arith}
-use borrow.Author.Tests.{lt-ltb, le-ltb, le-leb, ltb-false, eq-eqb}
+use borrow.Author.Tests.{lt-ltb, le-ltb, le-leb, eq-eqb}
 use lib.Dec.{ltb}
 use lib.ListN.{length, length-map}
 use lib.IntN.{ℤ}
 use Rattle.loftsplice.specs.declared.leading.Lead.the-variants.{Go}
 use Rattle.ranges.specs.Ranges.{allFor, firstFor, every}
-use Rattle.ranges.proofs.Bools.{or-left, same-after, either}
+use Rattle.ranges.proofs.Bools.{same-after, either}
 use Rattle.meaning.specs.Refusals.{fine, Gives, Number, tried}
 use Rattle.meaning.specs.Sequence.{Sequence, rises, firstNotBelow, elementsFor}
 use Rattle.meaning.specs.Column.{endBefore, runOf, shapeOk, endsOk, reachOk, sound}
@@ -35,10 +35,12 @@ use Rattle.loftsplice.specs.Listing.{Span, windows, those, valuesIn, valuesOf, 
 use Rattle.theorems.specs.Exact.{soundSource}
 use Rattle.theorems.specs.Empty.{empty, nowhere, spent, Barren, zeros}
 use Rattle.theorems.proofs.ColumnCalls.{sound-source}
-use Rattle.theorems.proofs.ScanCalls.{next-accepts, next-does, seek-accepts, seek-does, narrow-refuses-5, narrow-accepts, narrow-does, reset-accepts, reset-does, current-accepts, current-does, pos-accepts, pos-does}
+use Rattle.theorems.proofs.ScanCalls.{next-accepts, next-does, seek-accepts, seek-does, narrow-refuses-5, narrow-accepts, narrow-does, reset-accepts, reset-does, pos-accepts, pos-does}
 use Rattle.theorems.proofs.FilterCalls.{call-accepts, call-does, filter-current-accepts, filter-current-does}
 use Rattle.theorems.proofs.Columns.{short-rises}
 use Rattle.theorems.proofs.Moves.{to-end, in-place, below-end}
+use Rattle.theorems.proofs.Carried.{good-value, sound-current}
+use Rattle.loftsplice.proofs.ScanCases.{carries, end-in}
 
 -- ---- the column's calls
 
@@ -90,8 +92,7 @@ module _ (s : Scan) (good : badScan (nowhere .sequence) s ≡ false) where
   q = nowhere .sequence
 
   over-all : s .end ≤ 0
-  unfolding badScan
-  over-all = omega (arith, ltb-false (q .size) (s .end) (or-left (ltb (q .size) (s .end)) (outside s (s .state)) good), no-length)
+  over-all = omega (arith, end-in q s good, no-length)
 
   -- it is at no index
   at-none : {P : Type 0} (i : ℕ) → outside s (At i) ≡ false → P
@@ -129,8 +130,8 @@ module _ (s : Scan) (good : badScan (nowhere .sequence) s ≡ false) where
   no-index (At i) h = at-none i h
   no-index Ended h = refl
 
-  pub empty-current : currentOf nowhere s ≡ Gives none
-  empty-current = current-does nowhere s (current-accepts nowhere s .1 (is-source, good)) ∙ ap Gives (no-element (s .state) (in-place q s good))
+  pub empty-current : currentOf s ≡ Gives none
+  empty-current = sound-current q s good ∙ ap Gives (no-element (s .state) (in-place q s good))
 
   pub empty-pos : posOf nowhere s ≡ Gives none
   empty-pos = pos-does nowhere s (pos-accepts nowhere s .1 (is-source, good)) ∙ ap Gives (no-index (s .state) (in-place q s good))
@@ -181,13 +182,13 @@ module _ (f : Filter) (good : badScan (nowhere .sequence) (f .scan) ≡ false) w
       let ok = call-accepts nowhere f k .1 (is-source, good, few, rising (f .scan) good, read) in
       rw (call-does nowhere f k ok) (step-none k (f .state) refl)
 
-  none-in : (t : FilterState) → currentIn (nowhere .sequence) f t ≡ none
+  none-in : (t : FilterState) → currentIn f t ≡ none
   none-in Before = refl
-  none-in (Within up) = no-element (f .scan) good (f .scan .state) (in-place (nowhere .sequence) (f .scan) good)
+  none-in (Within up) = carries (nowhere .sequence) (f .scan) good ∙ no-element (f .scan) good (f .scan .state) (in-place (nowhere .sequence) (f .scan) good)
   none-in After = refl
 
-  pub empty-filter-current : filterCurrentOf nowhere f ≡ Gives none
-  empty-filter-current = filter-current-does nowhere f (filter-current-accepts nowhere f .1 (is-source, good)) ∙ ap Gives (none-in (f .state))
+  pub empty-filter-current : filterCurrentOf f ≡ Gives none
+  empty-filter-current = filter-current-does f (filter-current-accepts f .1 (good-value (nowhere .sequence) (f .scan) good)) ∙ ap Gives (none-in (f .state))
 
 -- ---- the listing: of no windows, and of any that end at 0
 

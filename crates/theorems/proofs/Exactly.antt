@@ -154,7 +154,7 @@ pub record OfSource {B : Type 0} (p : Source) (x : Said B) : Type 0 where
   pub refuses-2 : (x ≡ Number 2) ↔ ((p .shape ≡ false) × (p .ends ≡ true))
   pub refuses-3 : (x ≡ Number 3) ↔ ((p .shape ≡ false) × (p .ends ≡ false) × (p .reach ≡ true))
 
--- "Every scan call .. applies 1, 2, 3 and 6 ..; so do next, seek and current of a filter."
+-- "Every scan call .. applies 1, 2, 3 and 6 ..; so do next, seek .. of a filter.": each but `current`, which checks no column
 pub record OfScan {B : Type 0} (p : Source) (s : Scan) (x : Said B) : Type 0 where
   pub of-source : OfSource p x
   pub refuses-6 : (x ≡ Number 6) ↔ ((soundSource p ≡ true) × (badScan (p .sequence) s ≡ true))

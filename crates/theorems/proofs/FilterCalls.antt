@@ -21,12 +21,12 @@ use Rattle.bounds.specs.declared.Bounds.{Bounds}
 use Rattle.filter_interval.specs.declared.FilterState.{FilterState}
 use Rattle.filter_interval.specs.declared.FilterState.the-variants.{Before, Within, After}
 use Rattle.filter_interval.specs.declared.Filter.{Filter}
-use Rattle.loftsplice.specs.Scan.{Outcome, badScan, onScan}
+use Rattle.loftsplice.specs.Scan.{Outcome, badScan, badValue}
 use Rattle.bounds.specs.Bounds.{bounds}
 use Rattle.filter_interval.specs.Filter.{Call, Sifting, newFilter, accepts, settle, stepFrom, tooMany, unread, refuseCall, fitOf, callOf, currentIn, filterCurrentOf, upperOf, allReadable}
 use Rattle.theorems.specs.Exact.{earlier, accepted, soundSource}
 use Rattle.theorems.proofs.Exactly.{Speaks, plainly, exact, accepted-exactly, refused-is, accepted-is, OfScan, scan-tests}
-use Rattle.theorems.proofs.ScanCalls.{scan-refuses, scan-accepts}
+use Rattle.theorems.proofs.ScanCalls.{valueTest, value-refuses-6, value-accepts}
 
 -- ---- making a filter
 
@@ -121,15 +121,17 @@ module _ (p : Source) (f : Filter) where
     unfolding callOf
     call-keeps h = ap (λ (o : Sifting). o .filter) (refused-is calls tests h .1)
 
-  pub filter-current-refuses : OfScan p (f .scan) (filterCurrentOf p f)
+-- "`current`, the filter's too, checks no column and refuses 6 only where ..", in any filter state
+module _ (f : Filter) where
+  pub filter-current-refuses-6 : (filterCurrentOf f ≡ Number 6) ↔ (badValue (f .scan) ≡ true)
   unfolding filterCurrentOf
-  filter-current-refuses = scan-refuses p (f .scan) (plainly _)
+  filter-current-refuses-6 = value-refuses-6 (f .scan) _
 
-  pub filter-current-accepts : (accepted (filterCurrentOf p f) ≡ true) ↔ ((soundSource p ≡ true) × (bad ≡ false))
+  pub filter-current-accepts : (accepted (filterCurrentOf f) ≡ true) ↔ (badValue (f .scan) ≡ false)
   unfolding filterCurrentOf
-  filter-current-accepts = scan-accepts p (f .scan) (plainly _)
+  filter-current-accepts = value-accepts (f .scan) _
 
-  -- "the scan's current when Within, else none"
-  pub filter-current-does : accepted (filterCurrentOf p f) ≡ true → filterCurrentOf p f ≡ Gives (currentIn (p .sequence) f (f .state))
+  -- "the scan's answers what is carried, the filter's the same when Within, else none"
+  pub filter-current-does : accepted (filterCurrentOf f) ≡ true → filterCurrentOf f ≡ Gives (currentIn f (f .state))
   unfolding filterCurrentOf
-  filter-current-does = accepted-is (plainly _) (onScan p (f .scan))
+  filter-current-does = accepted-is (plainly _) (valueTest (f .scan))

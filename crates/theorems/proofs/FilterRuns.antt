@@ -49,12 +49,12 @@ steps q f (k ∷ ks) = stepFrom q k f (f .state) .said ∷ steps q (stepFrom q k
 abbrev pub on : Sequence → Sifting → List Call → List (Said (Option ℤ))
 on q m ks = m .said ∷ steps q (m .filter) ks
 
-abbrev filterOf : ℕ → ℕ → Limit → Limit → State → FilterState → Filter
-filterOf s e l u t w = record { scan = put (fresh s e) t; lower = l; upper = u; state = w }
+abbrev filterOf : Sequence → ℕ → ℕ → Limit → Limit → State → FilterState → Filter
+filterOf q s e l u t w = record { scan = put q (fresh s e) t; lower = l; upper = u; state = w }
 
 -- a first call that reads the bounds low and up
 abbrev pub begins : Sequence → ℕ → ℕ → Limit → Limit → Limit → Limit → Move → Sifting
-begins q s e l u up low m = settle (filterOf s e l u Fresh Before) up (leadFrom q (leadTo (raised m low)) (fresh s e))
+begins q s e l u up low m = settle (filterOf q s e l u Fresh Before) up (leadFrom q (leadTo (raised m low)) (fresh s e))
 
 -- the two folded bounds
 abbrev pub both : Limit → Limit → ℤ → Bool
@@ -93,29 +93,29 @@ module _ (q : Sequence) (s e : ℕ) (rise : rises q s e ≡ true) where
     -- the call's answer and those of the calls after it
     module _ (ok : ℤ → Bool) (l u : Limit) (t : State) (w : FilterState) (ks : List Call) where
       abbrev step : Sifting
-      step = settle (filterOf s e l u t w) up (goTo q (put (fresh s e) t) j)
+      step = settle (filterOf q s e l u t w) up (goTo q (put q (fresh s e) t) j)
 
-      settle-in : ltb j e ≡ true → within up (q .at j) ≡ true → step ≡ record { filter = filterOf s e l u (At j) (Within up); said = Gives (some (q .at j)) }
+      settle-in : ltb j e ≡ true → within up (q .at j) ≡ true → step ≡ record { filter = filterOf q s e l u (At j) (Within up); said = Gives (some (q .at j)) }
       unfolding settle goTo
       settle-in b c = rw (b, c)
 
-      settle-out : ltb j e ≡ true → within up (q .at j) ≡ false → step ≡ record { filter = filterOf s e l u (At j) After; said = Gives none }
+      settle-out : ltb j e ≡ true → within up (q .at j) ≡ false → step ≡ record { filter = filterOf q s e l u (At j) After; said = Gives none }
       unfolding settle goTo
       settle-out b c = rw (b, c)
 
-      settle-end : ltb j e ≡ false → step ≡ record { filter = filterOf s e l u Ended After; said = Gives none }
+      settle-end : ltb j e ≡ false → step ≡ record { filter = filterOf q s e l u Ended After; said = Gives none }
       unfolding settle goTo
       settle-end b = rw b
 
       -- the last answer is none
-      stops : (t : State) → step ≡ record { filter = filterOf s e l u t After; said = Gives none }
+      stops : (t : State) → step ≡ record { filter = filterOf q s e l u t After; said = Gives none }
           → (r : ℕ) → e ≤ r → on q step ks ≡ From q e ok r ks
       unfolding answerAt
       stops t m r n =
           rw (m, le-ltb r e n)
-          (same-after (Gives none) (after-run q (put (fresh s e) t) l u ks ∙ sym (over-run q e ok (suc r) r (moves ks) (omega arith) n)))
+          (same-after (Gives none) (after-run q (put q (fresh s e) t) l u ks ∙ sym (over-run q e ok (suc r) r (moves ks) (omega arith) n)))
 
-      landed : (j < e → p (q .at j) ≡ true → steps q (filterOf s e l u (At j) (Within up)) ks ≡ expectedFrom q e ok (suc j) j (moves ks))
+      landed : (j < e → p (q .at j) ≡ true → steps q (filterOf q s e l u (At j) (Within up)) ks ≡ expectedFrom q e ok (suc j) j (moves ks))
           → (r : ℕ) → r ≡ firstFrom (λ i. p (q .at i) && within up (q .at i)) a e
           → on q step ks ≡ From q e ok r ks
       unfolding answerAt
@@ -131,14 +131,14 @@ module _ (q : Sequence) (s e : ℕ) (rise : rises q s e ≡ true) where
 
   module _ (low up l u : Limit) where
     abbrev Known : List Call → Type 0
-    Known ks = (j : ℕ) → s ≤ j → j < e → above low (q .at j) ≡ true → steps q (filterOf s e l u (At j) (Within up)) ks ≡ expectedFrom q e (both low up) (suc j) j (moves ks)
+    Known ks = (j : ℕ) → s ≤ j → j < e → above low (q .at j) ≡ true → steps q (filterOf q s e l u (At j) (Within up)) ks ≡ expectedFrom q e (both low up) (suc j) j (moves ks)
 
     swapped : (x : ℤ) (a : ℕ) → firstFrom (λ i. both low up (q .at i) && not (ltZ (q .at i) x)) a e
         ≡ firstFrom (λ i. (above low (q .at i) && not (ltZ (q .at i) x)) && within up (q .at i)) a e
     swapped x a = ap (λ (p : ℕ → Bool). firstFrom p a e) (fun-ext (λ (i : ℕ). and-swap (above low (q .at i)) (within up (q .at i)) (not (ltZ (q .at i) x))))
 
     by-move : (i : ℕ) → s ≤ i → i < e → above low (q .at i) ≡ true → (ks : List Call) → Known ks → (m : Move)
-        → on q (settle (filterOf s e l u (At i) (Within up)) up (moveScan q m (put (fresh s e) (At i)))) ks ≡ From q e (both low up) (earliest q e (both low up) (suc i) i m) ks
+        → on q (settle (filterOf q s e l u (At i) (Within up)) up (moveScan q m (put q (fresh s e) (At i)))) ks ≡ From q e (both low up) (earliest q e (both low up) (suc i) i m) ks
     unfolding nextFrom seekFrom earliest
     by-move i a b h ks ih Next =
         landed up (above low) (suc i) (suc i) (omega arith)

@@ -34,11 +34,11 @@ use Rattle.loftsplice.specs.Lead.{found, onPast, leadFrom}
 use Rattle.bounds.specs.Bounds.{isExclusive, meetsUpper, within}
 use Rattle.filter_interval.specs.Filter.{Call, Sifting, lowerOf, upperOf, raised, settle, stepFrom, callOf, currentIn, filterCurrentOf, leadTo}
 use Rattle.filter_interval.specs.Inner.{upFor}
-use Rattle.theorems.specs.Exact.{accepted, soundSource}
+use Rattle.theorems.specs.Exact.{accepted}
 use Rattle.theorems.specs.Comments.{Inside, passed, Past, Outside}
 use Rattle.theorems.proofs.FilterCalls.{call-accepts, call-does, call-keeps, filter-current-accepts, filter-current-does}
-use Rattle.theorems.proofs.Moves.{Restricted, in-place, restricted-bad}
-use Rattle.theorems.proofs.AcceptedRuns.{step-begun}
+use Rattle.loftsplice.proofs.ScanCases.{carries}
+use Rattle.theorems.proofs.Carried.{good-value, asked-sound}
 
 -- ---- the three states
 
@@ -193,34 +193,28 @@ module _ (p : Source) (f : Filter) (k : Call) (ok : accepted (callOf p k f .said
 
   -- ---- current
 
-  parts : (soundSource p ≡ true) × (badScan q (f .scan) ≡ false)
-  parts = let h = call-accepts p f k .0 ok in (h .0, h .1)
-
   kept : badScan q (callOf p k f .filter .scan) ≡ false
-  kept =
-      let r : Restricted (f .scan .start) (f .scan .end) (f .scan) = record { same-start = refl; same-end = refl; inside = in-place q (f .scan) (parts .1) } in
-      let g : Restricted (f .scan .start) (f .scan .end) (callOf p k f .filter .scan) = rw (call-does p f k ok) (step-begun q (f .scan .start) (f .scan .end) k f r .scan) in
-      restricted-bad q (callOf p k f .filter .scan) g ∙ sym (restricted-bad q (f .scan) r) ∙ parts .1
+  kept = asked-sound p k f (call-accepts p f k .0 ok .1)
 
-  shown : filterCurrentOf p (callOf p k f .filter) ≡ Gives (currentIn q (callOf p k f .filter) (callOf p k f .filter .state))
-  shown = let g = callOf p k f .filter in filter-current-does p g (filter-current-accepts p g .1 (parts .0, kept))
+  shown : filterCurrentOf (callOf p k f .filter) ≡ Gives (currentIn (callOf p k f .filter) (callOf p k f .filter .state))
+  shown = let g = callOf p k f .filter in filter-current-does g (filter-current-accepts g .1 (good-value q (g .scan) kept))
 
   -- the Rust's next and seek end with `self.current()`: what a call answers is what current answers then
-  pub current-is-the-answer : filterCurrentOf p (callOf p k f .filter) ≡ callOf p k f .said
+  pub current-is-the-answer : filterCurrentOf (callOf p k f .filter) ≡ callOf p k f .said
   current-is-the-answer = by (f .state) refl
     where
       g : Filter
       g = callOf p k f .filter
 
-      out : Inside q in-force (callOf p k f) ⊎ Outside q in-force (callOf p k f) → filterCurrentOf p g ≡ callOf p k f .said
-      out (inl i) = shown ∙ ap Gives (ap (currentIn q g) (i .state-is) ∙ i .stands-on) ∙ sym (i .gives)
-      out (inr o) = shown ∙ ap Gives (ap (currentIn q g) (o .state-is)) ∙ sym (o .gives)
+      out : Inside q in-force (callOf p k f) ⊎ Outside q in-force (callOf p k f) → filterCurrentOf g ≡ callOf p k f .said
+      out (inl i) = shown ∙ ap Gives (ap (currentIn g) (i .state-is) ∙ carries q (g .scan) kept ∙ i .stands-on) ∙ sym (i .gives)
+      out (inr o) = shown ∙ ap Gives (ap (currentIn g) (o .state-is)) ∙ sym (o .gives)
 
-      by : (t : FilterState) → f .state ≡ t → filterCurrentOf p g ≡ callOf p k f .said
+      by : (t : FilterState) → f .state ≡ t → filterCurrentOf g ≡ callOf p k f .said
       by Before e = out (call-comes-to (λ a. after-not-before (sym a ∙ e)))
       by (Within u) e = out (call-comes-to (λ a. not-within (sym e ∙ a)))
       by After e =
-          shown ∙ ap Gives (ap (currentIn q g) (ap (λ (m : Sifting). m .filter .state) (after-stays e) ∙ e)) ∙ sym (ap (λ (m : Sifting). m .said) (after-stays e))
+          shown ∙ ap Gives (ap (currentIn g) (ap (λ (m : Sifting). m .filter .state) (after-stays e) ∙ e)) ∙ sym (ap (λ (m : Sifting). m .said) (after-stays e))
 
   not-before-then : callOf p k f .filter .state ≡ Before → ⊥
   not-before-then h = by (f .state) refl
@@ -235,8 +229,8 @@ module _ (p : Source) (f : Filter) (k : Call) (ok : accepted (callOf p k f .said
       by After e = after-not-before (sym (ap (λ (m : Sifting). m .filter .state) (after-stays e) ∙ e) ∙ h)
 
 -- Before: "[ColumnScanFilterInterval]'s value is lower than the lower bound of the interval". What is true: a filter that is Before has no value,
-pub before-current : (p : Source) (f : Filter) → f .state ≡ Before → accepted (filterCurrentOf p f) ≡ true → filterCurrentOf p f ≡ Gives none
-before-current p f h ok = filter-current-does p f ok ∙ ap (λ (t : FilterState). Gives (currentIn (p .sequence) f t)) h
+pub before-current : (f : Filter) → f .state ≡ Before → accepted (filterCurrentOf f) ≡ true → filterCurrentOf f ≡ Gives none
+before-current f h ok = filter-current-does f ok ∙ ap (λ (t : FilterState). Gives (currentIn f t)) h
 
 -- and no call was accepted since it was made or reset. (Its scan may stand on a value that is not lower: BoundComments `before-not-lower`.)
 pub before-exactly : (p : Source) (f : Filter) (k : Call) → (callOf p k f .filter .state ≡ Before) ↔ ((accepted (callOf p k f .said) ≡ false) × (f .state ≡ Before))

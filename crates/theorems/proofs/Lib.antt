@@ -6,13 +6,14 @@ pub mod FilterCalls
 pub mod ListingCalls
 pub mod Columns
 pub mod Moves
+pub mod AcceptedRuns
+pub mod Carried
 pub mod DocComments
 pub mod Bounds
 pub mod Windows
 pub mod Expected
 pub mod FilterRuns
 pub mod Folded
-pub mod AcceptedRuns
 pub mod Demand3
 pub mod ScanRuns
 pub mod Seeks

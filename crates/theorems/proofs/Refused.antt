@@ -11,7 +11,7 @@ use borrow.Author.Tests.{le-ltb}
 use lib.Dec.{ltb}
 use lib.IntN.{ℤ}
 use Rattle.ranges.specs.Ranges.{every}
-use Rattle.ranges.proofs.Bools.{either, and-left, and-right, or-false, same-after}
+use Rattle.ranges.proofs.Bools.{either, and-left, and-right, same-after}
 use Rattle.meaning.specs.Refusals.{Said, Number}
 use Rattle.meaning.specs.Sequence.{Source, rises}
 use Rattle.meaning.specs.Column.{Column, sizeOf, sequenceOf, sound, sourceOf}
@@ -23,6 +23,7 @@ use Rattle.theorems.specs.Runs.{allowedScan, risingWindow}
 use Rattle.theorems.specs.Audit.{seeks, filled}
 use Rattle.theorems.specs.Answered.{refusedOf, sevens, answeredOtherwise}
 use Rattle.theorems.proofs.ScanCalls.{seek-refuses-7, seek-keeps}
+use Rattle.theorems.proofs.Moves.{fresh-restricted, restricted-bad}
 use Rattle.theorems.proofs.ScanRuns.{run-accepted-exactly-if, rising-accepted}
 use Rattle.theorems.proofs.Audit.{column-window}
 
@@ -55,8 +56,8 @@ filled-answered (k ∷ ks) (a ∷ answers) h =
 
 module _ (p : Source) (start end : ℕ) where
   allowed-seek : (x : ℤ) → allowedScan p (Seek x) (fresh start end) ≡ risingWindow p start end
-  unfolding allowedScan badScan risingWindow
-  allowed-seek x = rw or-false
+  unfolding allowedScan risingWindow
+  allowed-seek x = rw (restricted-bad (p .sequence) (fresh start end) (fresh-restricted (p .sequence) start end))
 
   -- A run of searches is accepted throughout exactly if the window rises and ends within a sound column: it depends on neither the numbers nor their order.
   pub searches-accepted-exactly-if : (k : ℤ) (ks : List ℤ) → every accepted (seeks p (fresh start end) (k ∷ ks)) ≡ risingWindow p start end

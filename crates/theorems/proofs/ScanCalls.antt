@@ -10,15 +10,18 @@ use Rattle.ranges.specs.Ranges.{someOf}
 use Rattle.ranges.proofs.Bools.{either}
 use Rattle.ranges.proofs.Reading.{reading, same-test}
 use Rattle.meaning.specs.declared.Refusal.{Refusal}
-use Rattle.meaning.specs.declared.Refusal.the-variants.{Window, Order}
-use Rattle.meaning.specs.Refusals.{Said, Gives, Number, also, judged}
+use Rattle.meaning.specs.declared.Refusal.the-variants.{Window, Order, Scan as OffScan}
+use Rattle.meaning.specs.Refusals.{Said, Gives, Number, nothing, also, judged}
 use Rattle.meaning.specs.Sequence.{Sequence, Source, onSource, rises, firstNotBelow}
 use Rattle.loftsplice.specs.declared.scan.Move.the-variants.{Next, Seek}
 use Rattle.loftsplice.specs.declared.scan.Move.{Move}
 use Rattle.loftsplice.specs.declared.scan.State.{State}
 use Rattle.loftsplice.specs.declared.scan.State.the-variants.{Fresh, At, Ended}
 use Rattle.loftsplice.specs.declared.scan.Scan.{Scan}
-use Rattle.loftsplice.specs.Scan.{Outcome, fresh, goTo, nextFrom, seekFrom, elementIn, indexIn, badScan, onScan, onRising, refuse, newOf, nextOf, seekOf, narrowOf, resetOf, currentOf, posOf, moveScan, called, Go}
+use Rattle.loftsplice.specs.declared.leading.Lead.{Lead}
+use Rattle.loftsplice.specs.declared.leading.Lead.the-variants.{Stay, Go as Onward, Past}
+use Rattle.loftsplice.specs.Lead.{found, onPast, leadFrom, onLead, leadOf}
+use Rattle.loftsplice.specs.Scan.{Outcome, fresh, goTo, nextFrom, seekFrom, carriedBy, indexIn, badScan, badValue, onScan, onRising, refuse, newOf, nextOf, seekOf, narrowOf, resetOf, currentOf, posOf, moveScan, called, Go}
 use Rattle.theorems.specs.Exact.{earlier, accepted, soundSource}
 use Rattle.theorems.specs.Runs.{allowedScan}
 use Rattle.theorems.proofs.Exactly.{Speaks, plainly, says, exact, accepted-exactly, refused-is, accepted-is, OfSource, OfScan, source-tests, scan-tests}
@@ -55,6 +58,42 @@ unfolding seekFrom
 seek-accepted q x s Fresh = to-accepted q s (firstNotBelow q x (s .start) (s .end))
 seek-accepted q x s (At i) = to-accepted q s (firstNotBelow q x i (s .end))
 seek-accepted q x s Ended = refl
+
+lead-accepted : (q : Sequence) (l : Lead) (s : Scan) → accepted (leadFrom q l s .said) ≡ true
+unfolding leadFrom onPast
+lead-accepted q Stay s = refl
+lead-accepted q (Onward Next) s = next-accepted q s (s .state)
+lead-accepted q (Onward (Seek x)) s = seek-accepted q x s (s .state)
+lead-accepted q (Past x) s =
+    let m = seekFrom q x s (s .state) in
+    either (found x (m .said)) (λ t. rw t (next-accepted q (m .scan) (m .scan .state))) (λ t. rw t (seek-accepted q x s (s .state)))
+
+-- ---- a call that "checks no column and refuses 6 only where a value is there when fresh or ended or missing at an index"
+
+module _ (s : Scan) where
+  abbrev pub valueTest : Refusal → Bool
+  valueTest = also OffScan (badValue s) nothing
+
+  module _ {A : Type 0} (a : A) where
+    pub value-refuses-6 : (says (plainly a) valueTest ≡ Number 6) ↔ (badValue s ≡ true)
+    unfolding someOf earlier
+    value-refuses-6 = Iff·trans (exact (plainly a) valueTest OffScan refl) (simp reading Iff·rfl)
+
+    pub value-accepts : (accepted (says (plainly a) valueTest) ≡ true) ↔ (badValue s ≡ false)
+    value-accepts = Iff·trans (accepted-exactly (plainly a) valueTest) (simp reading Iff·rfl)
+
+  pub current-refuses-6 : (currentOf s ≡ Number 6) ↔ (badValue s ≡ true)
+  unfolding currentOf
+  current-refuses-6 = value-refuses-6 _
+
+  pub current-accepts : (accepted (currentOf s) ≡ true) ↔ (badValue s ≡ false)
+  unfolding currentOf
+  current-accepts = value-accepts _
+
+  -- it "answers what is carried"
+  pub current-does : accepted (currentOf s) ≡ true → currentOf s ≡ Gives (carriedBy (s .value))
+  unfolding currentOf
+  current-does = accepted-is (plainly _) valueTest
 
 -- ---- the calls on a scan
 
@@ -175,18 +214,6 @@ module _ (p : Source) (s : Scan) where
   unfolding resetOf
   reset-keeps = scan-keeps resets (onScan p s)
 
-  pub current-refuses : OfScan p s (currentOf p s)
-  unfolding currentOf
-  current-refuses = scan-refuses (plainly _)
-
-  pub current-accepts : (accepted (currentOf p s) ≡ true) ↔ ((soundSource p ≡ true) × (bad ≡ false))
-  unfolding currentOf
-  current-accepts = scan-accepts (plainly _)
-
-  pub current-does : accepted (currentOf p s) ≡ true → currentOf p s ≡ Gives (elementIn (p .sequence) (s .state))
-  unfolding currentOf
-  current-does = accepted-is (plainly _) (onScan p s)
-
   pub pos-refuses : OfScan p s (posOf p s)
   unfolding posOf
   pos-refuses = scan-refuses (plainly _)
@@ -214,3 +241,26 @@ module _ (p : Source) (s : Scan) where
   pub move-keeps : (m : Move) → accepted (called p (Go m) s .said) ≡ false → called p (Go m) s .scan ≡ s
   move-keeps Next = next-keeps
   move-keeps (Seek x) = seek-keeps x
+
+  -- ---- a scan that a filter leads
+
+  module _ (many unread : Bool) (l : Lead) where
+    leads : Handing (leadFrom (p .sequence) l s)
+    leads = handing (lead-accepted (p .sequence) l s)
+
+    pub lead-refuses : OfScan p s (leadOf p many unread l s .said)
+    unfolding leadOf
+    lead-refuses = scan-tests leads (onLead p many unread s) p refl refl refl s refl
+
+    pub lead-accepts : (accepted (leadOf p many unread l s .said) ≡ true)
+        ↔ ((soundSource p ≡ true) × (bad ≡ false) × (many ≡ false) × (rising ≡ true) × (unread ≡ false))
+    unfolding leadOf soundSource
+    lead-accepts = Iff·trans (accepted-exactly leads (onLead p many unread s)) (simp reading Iff·rfl)
+
+    pub lead-does : accepted (leadOf p many unread l s .said) ≡ true → leadOf p many unread l s ≡ leadFrom (p .sequence) l s
+    unfolding leadOf
+    lead-does = accepted-is leads (onLead p many unread s)
+
+    pub lead-keeps : accepted (leadOf p many unread l s .said) ≡ false → leadOf p many unread l s .scan ≡ s
+    unfolding leadOf
+    lead-keeps = scan-keeps leads (onLead p many unread s)

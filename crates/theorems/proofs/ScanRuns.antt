@@ -50,24 +50,24 @@ what-a-seek-gives p x s v h = seek-finds p s x v h .4
 -- ---- which runs are accepted
 
 module _ (p : Source) (s e : ℕ) where
-  allowed-alike : (m : Move) (c : Scan) → Restricted s e c → allowedScan p m c ≡ allowedScan p m (fresh s e)
+  allowed-alike : (m : Move) (c : Scan) → Restricted (p .sequence) s e c → allowedScan p m c ≡ allowedScan p m (fresh s e)
   unfolding allowedScan
   allowed-alike m c r =
-      rw (restricted-bad (p .sequence) c r, r .same-start, r .same-end, restricted-bad (p .sequence) (fresh s e) (fresh-restricted s e))
+      rw (restricted-bad (p .sequence) c r, r .same-start, r .same-end, restricted-bad (p .sequence) (fresh s e) (fresh-restricted (p .sequence) s e))
 
-  run-accepted : (ms : List Move) (c : Scan) → Restricted s e c → every accepted (scanAnswers p c ms) ≡ every (λ m. allowedScan p m (fresh s e)) ms
+  run-accepted : (ms : List Move) (c : Scan) → Restricted (p .sequence) s e c → every accepted (scanAnswers p c ms) ≡ every (λ m. allowedScan p m (fresh s e)) ms
   unfolding every saysAll
   run-accepted [] c r = refl
   run-accepted (m ∷ ms) c r =
       rw (move-accepts p c m ∙ allowed-alike m c r)
       (ap (λ t. allowedScan p m (fresh s e) && t) (run-accepted ms (called p (Go m) c .scan) next))
     where
-      next : Restricted s e (called p (Go m) c .scan)
+      next : Restricted (p .sequence) s e (called p (Go m) c .scan)
       next = either (accepted (called p (Go m) c .said)) (λ t. rw (move-does p c m t) (move-restricted (p .sequence) c m r)) (λ t. rw (move-keeps p c m t) r)
 
   -- A run on a fresh scan is accepted exactly if each of its calls is allowed on the fresh scan.
   pub run-accepted-exactly-if : (ms : List Move) → every accepted (scanAnswers p (fresh s e) ms) ≡ every (λ m. allowedScan p m (fresh s e)) ms
-  run-accepted-exactly-if ms = run-accepted ms (fresh s e) (fresh-restricted s e)
+  run-accepted-exactly-if ms = run-accepted ms (fresh s e) (fresh-restricted (p .sequence) s e)
 
 -- what a window that rises tells
 pub rising-parts : (p : Source) (s e : ℕ) → (risingWindow p s e ≡ true) ↔ ((soundSource p ≡ true) × (ltb (p .sequence .size) e ≡ false) × (rises (p .sequence) s e ≡ true))
@@ -92,17 +92,17 @@ Stands s e Ended a b = (e ≤ a) × (e ≤ b)
 module _ (q : Sequence) (s e : ℕ) where
   -- what a move comes to: the answer at index j, and a scan that stands there
   abbrev Comes : Outcome → ℕ → Type 0
-  Comes o j = (t : State) × (o ≡ record { scan = put (fresh s e) t; said = answerAt q e j }) × Stands s e t (suc j) j
+  Comes o j = (t : State) × (o ≡ record { scan = put q (fresh s e) t; said = answerAt q e j }) × Stands s e t (suc j) j
 
-  lands : (t : State) (j : ℕ) → Comes (goTo q (put (fresh s e) t) j) j
+  lands : (t : State) (j : ℕ) → Comes (goTo q (put q (fresh s e) t) j) j
   unfolding goTo answerAt
   lands t j = either (ltb j e) (λ h. (At j, rw h, (refl, refl))) (λ h. let l : e ≤ j = ltb-false j e h in (Ended, rw h, (omega arith, l)))
 
-  ends : (j : ℕ) → e ≤ j → Comes (record { scan = put (fresh s e) Ended; said = Gives none }) j
+  ends : (j : ℕ) → e ≤ j → Comes (record { scan = put q (fresh s e) Ended; said = Gives none }) j
   unfolding answerAt
   ends j l = (Ended, rw (le-ltb j e l), (omega arith, l))
 
-  comes : (m : Move) (t : State) (a b : ℕ) → Stands s e t a b → Comes (moveScan q m (put (fresh s e) t)) (earliest q e anything a b m)
+  comes : (m : Move) (t : State) (a b : ℕ) → Stands s e t a b → Comes (moveScan q m (put q (fresh s e) t)) (earliest q e anything a b m)
   unfolding nextFrom seekFrom earliest
   comes Next Fresh a b h = rw (first-now (λ i. anything (q .at i)) a e (λ l. refl), h .0) (lands Fresh s)
   comes Next (At i) a b h = rw (first-now (λ i. anything (q .at i)) a e (λ l. refl), h .0) (lands (At i) (suc i))
@@ -112,15 +112,15 @@ module _ (q : Sequence) (s e : ℕ) where
   comes (Seek x) Ended a b h = ends (firstNotBelow q x b e) (omega (arith, h .1, first-known (λ i. not (ltZ (q .at i) x)) b e .from))
 
 run-answers : (p : Source) (s e : ℕ) (ms : List Move) (t : State) (a b : ℕ) → Stands s e t a b
-    → every accepted (scanAnswers p (put (fresh s e) t) ms) ≡ true
-    → scanAnswers p (put (fresh s e) t) ms ≡ expectedFrom (p .sequence) e anything a b ms
+    → every accepted (scanAnswers p (put (p .sequence) (fresh s e) t) ms) ≡ true
+    → scanAnswers p (put (p .sequence) (fresh s e) t) ms ≡ expectedFrom (p .sequence) e anything a b ms
 unfolding every saysAll expectedFrom
 run-answers p s e [] t a b h acc = refl
 run-answers p s e (m ∷ ms) t a b h acc =
-    let c = put (fresh s e) t in
+    let c = put (p .sequence) (fresh s e) t in
     let w = comes (p .sequence) s e m t a b h in
     let j = earliest (p .sequence) e anything a b m in
-    let o : called p (Go m) c ≡ record { scan = put (fresh s e) (w .0); said = answerAt (p .sequence) e j }
+    let o : called p (Go m) c ≡ record { scan = put (p .sequence) (fresh s e) (w .0); said = answerAt (p .sequence) e j }
     = move-does p c m (and-left (accepted (called p (Go m) c .said)) (every accepted (scanAnswers p (called p (Go m) c .scan) ms)) acc) ∙ w .1 in
     rw o (same-after (answerAt (p .sequence) e j) (run-answers p s e ms (w .0) (suc j) j (w .2)
     (rw o at (and-right (accepted (called p (Go m) c .said)) (every accepted (scanAnswers p (called p (Go m) c .scan) ms)) acc))))

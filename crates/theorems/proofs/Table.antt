@@ -13,9 +13,17 @@ use Rattle.bounds.specs.Bounds.{less, fold, meetsLower, meetsUpper, readable, a
 use Rattle.filter_interval.specs.Filter.{settle, stepFrom, fitOf, callOf, filterCurrentOf}
 use Rattle.loftsplice.specs.Listing.{windows, those, valuesIn, valuesOf, countsOf, listOf}
 use Rattle.theorems.specs.Table.{Row, table, endsFrom, sifts, times}
+use Rattle.theorems.specs.Carried.{carriedTable}
 
 pub examples : map (λ (r : Row). r .got) table ≡ map (λ (r : Row). r .want) table
 unfolding allFor firstFor every fitsIn tried rises endBefore runOf elementAt shapeOk endOk endsOk runOk reachOk diffStepOf checkOf placeOf getOf
     goTo nextFrom seekFrom badScan newOf nextOf seekOf narrowOf resetOf currentOf posOf less fold meetsUpper readable asRead onPast leadFrom settle stepFrom fitOf callOf filterCurrentOf
     elementsFor meetsLower windows those valuesIn valuesOf countsOf listOf endsFrom saysAll leftBy sifts times
 examples = refl
+
+-- document 02's request 8: a scan that carries its value, and scans that do not
+pub carried-examples : map (λ (r : Row). r .got) carriedTable ≡ map (λ (r : Row). r .want) carriedTable
+unfolding allFor firstFor every fitsIn tried rises endBefore runOf elementAt shapeOk endOk endsOk runOk reachOk
+    goTo nextFrom seekFrom badScan nextOf seekOf narrowOf resetOf currentOf posOf readable asRead fold meetsUpper onPast leadFrom settle stepFrom callOf filterCurrentOf
+    endsFrom saysAll leftBy sifts
+carried-examples = refl

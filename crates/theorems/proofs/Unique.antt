@@ -148,7 +148,7 @@ module _ (p : Source) where
     pub led-one : (many unread : Bool) (to : Lead) (x y : Moved) → outcomeOf x ≡ leadOf p many unread to s → outcomeOf y ≡ leadOf p many unread to s → x ≡ y
     led-one many unread to = one-result outcomeOf outcome-apart
 
-    pub current-one : (x y : Answer) → saysAnswer x ≡ currentOf p s → saysAnswer y ≡ currentOf p s → x ≡ y
+    pub current-one : (x y : Answer) → saysAnswer x ≡ currentOf s → saysAnswer y ≡ currentOf s → x ≡ y
     current-one = one-result saysAnswer answer-apart
 
     pub pos-one : (x y : Position) → saysPosition x ≡ posOf p s → saysPosition y ≡ posOf p s → x ≡ y
@@ -159,7 +159,7 @@ module _ (p : Source) where
     pub filter-call-one : (k : Call) (x y : Sifted) → siftingOf x ≡ callOf p k f → siftingOf y ≡ callOf p k f → x ≡ y
     filter-call-one k = one-result siftingOf sifting-apart
 
-    pub filter-current-one : (x y : Answer) → saysAnswer x ≡ filterCurrentOf p f → saysAnswer y ≡ filterCurrentOf p f → x ≡ y
+    pub filter-current-one : (x y : Answer) → saysAnswer x ≡ filterCurrentOf f → saysAnswer y ≡ filterCurrentOf f → x ≡ y
     filter-current-one = one-result saysAnswer answer-apart
 
 -- the batch listing: its answer, and the content of both arrays, each promised as it is

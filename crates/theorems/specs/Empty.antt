@@ -20,7 +20,7 @@ nowhere = sourceOf empty
 
 -- what next and seek leave of a scan: it has ended, and gives nothing
 abbrev pub spent : Scan → Outcome
-spent s = record { scan = put s Ended; said = Gives none }
+spent s = record { scan = put (nowhere .sequence) s Ended; said = Gives none }
 
 -- and of a filter: it gives nothing, and is After
 abbrev pub Barren : Sifting → Type 0

@@ -9,3 +9,4 @@ pub mod Resets
 pub mod Comments
 pub mod Empty
 pub mod Places
+pub mod Carried

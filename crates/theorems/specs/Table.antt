@@ -6,7 +6,7 @@ use lib.ListN.{length}
 use lib.IntN.{ℤ, pos, negsuc}
 use Rattle.meaning.specs.Refusals.{Word, fine, Said, Gives, Number}
 use Rattle.meaning.specs.Sequence.{Source}
-use Rattle.meaning.specs.Column.{Column, columnOf, sizeOf, sourceOf}
+use Rattle.meaning.specs.Column.{Column, columnOf, sizeOf, sequenceOf, sourceOf}
 use Rattle.meaning.specs.declared.Place.{Place}
 use Rattle.meaning.specs.Calls.{diffStepOf, checkOf, placeOf, getOf}
 use Rattle.loftsplice.specs.Listing.{Batch, listOf, outAfter, countsAfter}
@@ -87,11 +87,11 @@ abbrev pub acts : Column → Scan → List ScanCall → Seen
 acts c s ks = scanned (saysAll (sourceOf c) s ks) (posOf (sourceOf c) (leftBy (sourceOf c) s ks))
 
 abbrev pub looks : Column → Scan → List ScanCall → Seen
-looks c s ks = looked (currentOf (sourceOf c) (leftBy (sourceOf c) s ks))
+looks c s ks = looked (currentOf (leftBy (sourceOf c) s ks))
 
 -- on a scan that is at index i
 abbrev pub scanAt : Column → ℕ → List ScanCall → Seen
-scanAt c i ks = acts c (put (fresh 0 (sizeOf c)) (At i)) ks
+scanAt c i ks = acts c (put (sequenceOf c) (fresh 0 (sizeOf c)) (At i)) ks
 
 -- on a new scan
 abbrev pub onNew : Said Scan → (Scan → Seen) → Seen
@@ -113,7 +113,7 @@ pub data FilterAct : Type 0 where
 abbrev pub filterAct : Source → FilterAct → Filter → Sifting
 filterAct p (ask k) f = callOf p k f
 filterAct p again f = record { filter = filterResetOf f; said = Gives none }
-filterAct p look f = record { filter = f; said = filterCurrentOf p f }
+filterAct p look f = record { filter = f; said = filterCurrentOf f }
 
 unfoldable pub sifts : Source → List FilterAct → Filter → List (Said (Option ℤ))
 sifts p [] f = []

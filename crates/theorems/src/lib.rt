@@ -14,6 +14,7 @@
 //   Resets        calls on a filter, resets among them: the filter that they leave, and its initial state
 //   Comments      what the Rust's doc comments on filters and steps come to
 //   Empty         the empty column
+//   Carried       document 01's `current` with the column, the three conditions of 6, and rows of the table for a scan that carries its value
 //   Places        a walk through a column from place to place
 //
 // The theorems, proofs/:
@@ -31,6 +32,7 @@
 //   ScanCalls     of each call on a scan
 //   FilterCalls   of each call on a filter
 //   ListingCalls  of the batch listing
+//   Carried       every call keeps a scan sound; `current` answers as with the column; no repair; where it answers though others refuse
 //   DocComments   the Rust's doc comments of column and scan, sentence by sentence
 //   FilterStates  those of the filter's three states, and what is true where they are wrong
 //   BoundComments those of the filter's bounds
