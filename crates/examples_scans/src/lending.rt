@@ -1,5 +1,6 @@
-// Call sequences on scans that are lent, one call a line: what it answers, then the window and the state of the scan as it is given back.
-// After a refusal these are as they were lent.
+// Call sequences on scans that are lent, one call a line: what it answers, then the window, the state and, in brackets, the carried value of the scan as it is
+// given back. After a refusal these are as they were lent.
+use loftsplice::scan::Carried;
 use loftsplice::scan::Scan;
 use loftsplice::scan::State;
 use shown::text;
@@ -36,6 +37,7 @@ fn moved(starts: &[i64], ends: &[u64], steps: &[i16]) {
         start: 0,
         end: 9,
         state: State::Fresh,
+        value: Carried::None,
     };
     let s = next(s, starts, ends, steps);
     let s = next(s, starts, ends, steps);
@@ -59,6 +61,7 @@ fn falling(starts: &[i64], ends: &[u64], steps: &[i16]) {
         start: 0,
         end: 5,
         state: State::Fresh,
+        value: Carried::None,
     };
     let s = seek(s, starts, ends, steps, 6);
     let s = next(s, starts, ends, steps);
@@ -83,12 +86,14 @@ fn unsound(starts: &[i64], ends: &[u64], steps: &[i16]) {
         start: 0,
         end: 10,
         state: State::Fresh,
+        value: Carried::None,
     };
     each(long, starts, ends, steps);
     let out = Scan {
         start: 2,
         end: 4,
         state: State::At(4),
+        value: Carried::Value(30),
     };
     each(out, starts, ends, steps);
 }
@@ -99,6 +104,7 @@ fn damaged(starts: &[i64], ends: &[u64], steps: &[i16]) {
         start: 1,
         end: 3,
         state: State::At(2),
+        value: Carried::Value(6),
     };
     each(s, starts, ends, steps);
 }

@@ -1,5 +1,6 @@
-// Call sequences on scans, one call a line: what it answers, then the scan's window and state. Windows inside falling runs, ends within a run,
+// Call sequences on scans, one call a line: what it answers, then the scan's window, its state and, in brackets, the value that it carries. Windows inside falling runs, ends within a run,
 // starts beyond the column, the extremes of i64, and scans that are refused.
+use loftsplice::scan::Carried;
 use loftsplice::scan::Made;
 use loftsplice::scan::Scan;
 use loftsplice::scan::State;
@@ -20,6 +21,7 @@ fn made(starts: &[i64], ends: &[u64], steps: &[i16]) -> Scan {
                 start: 0,
                 end: 0,
                 state: State::Ended,
+                value: Carried::None,
             }
         }
     }
@@ -57,7 +59,7 @@ fn reset(s: Scan, starts: &[i64], ends: &[u64], steps: &[i16]) -> Scan {
 
 fn stands(s: Scan, starts: &[i64], ends: &[u64], steps: &[i16]) {
     text(b"current ");
-    shown::answer(s.current(starts, ends, steps));
+    shown::answer(s.current());
     text(b", pos ");
     shown::position(s.pos(starts, ends, steps));
     text(b"\n");
@@ -117,12 +119,13 @@ fn far(starts: &[i64], ends: &[u64], steps: &[i16]) {
     seek(s, starts, ends, steps, 9223372036854775807);
 }
 
-// Scans put together by hand: an end above the length, an index outside the window.
+// Scans put together by hand: an end above the length, an index outside the window. `current` answers what is carried all the same.
 fn unsound(starts: &[i64], ends: &[u64], steps: &[i16]) {
     let long = Scan {
         start: 0,
         end: 10,
         state: State::Fresh,
+        value: Carried::None,
     };
     next(long, starts, ends, steps);
     narrow(long, starts, ends, steps, 0, 1);
@@ -131,15 +134,38 @@ fn unsound(starts: &[i64], ends: &[u64], steps: &[i16]) {
         start: 2,
         end: 4,
         state: State::At(4),
+        value: Carried::Value(30),
     };
     seek(out, starts, ends, steps, 0);
     stands(out, starts, ends, steps);
+}
+
+// All but `current` refuse a scan that does not carry the element that it stands on, and none repairs it.
+fn misled(starts: &[i64], ends: &[u64], steps: &[i16], state: State, value: Carried) {
+    let s = Scan {
+        start: 0,
+        end: 9,
+        state,
+        value,
+    };
+    let s = next(s, starts, ends, steps);
+    let s = reset(s, starts, ends, steps);
+    stands(s, starts, ends, steps);
+}
+
+// C has 20 at index 2: a value that is another, one that is missing, and one where none belongs.
+fn carried(starts: &[i64], ends: &[u64], steps: &[i16]) {
+    misled(starts, ends, steps, State::At(2), Carried::Value(21));
+    misled(starts, ends, steps, State::At(2), Carried::None);
+    misled(starts, ends, steps, State::Fresh, Carried::Value(10));
+    misled(starts, ends, steps, State::Ended, Carried::Value(240));
 }
 
 fn on_c(starts: &[i64], ends: &[u64], steps: &[i16]) {
     sought(starts, ends, steps);
     windows(starts, ends, steps);
     unsound(starts, ends, steps);
+    carried(starts, ends, steps);
 }
 
 fn c() {

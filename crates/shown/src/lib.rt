@@ -8,6 +8,7 @@ use loftsplice::rle::Got;
 use loftsplice::rle::Length;
 use loftsplice::rle::Placed;
 use loftsplice::run_length_encodable::Difference;
+use loftsplice::scan::Carried;
 use loftsplice::scan::Moved;
 use loftsplice::scan::Position;
 use loftsplice::scan::Scan;
@@ -114,15 +115,29 @@ fn state(s: State) {
     }
 }
 
-// A scan: its window and its state.
+// What a scan carries, if it carries a value.
+fn carried(c: Carried) {
+    match c {
+        Carried::Value(v) => {
+            text(b" (");
+            signed(v);
+            text(b")");
+        }
+        Carried::None => {}
+    }
+}
+
+// A scan: its window, its state, and what it carries.
 pub fn scan(s: Scan) {
     let now = s.state;
+    let value = s.value;
     text(b" | ");
     unsigned(s.start);
     text(b"..");
     unsigned(s.end);
     text(b" ");
     state(now);
+    carried(value);
     text(b"\n");
 }
 
