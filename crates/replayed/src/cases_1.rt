@@ -13,7 +13,7 @@ fn case_1(v: &[i64], e: &[u64], d: &[i16]) {
     let s = seek(s, v, e, d, 99);
     let s = next(s, v, e, d);
     let s = next(s, v, e, d);
-    current(s, v, e, d);
+    current(s);
     let s = next(s, v, e, d);
     let s = seek(s, v, e, d, 5157404573161995745);
     next(s, v, e, d);
@@ -47,7 +47,7 @@ fn case_2(v: &[i64], e: &[u64], d: &[i16]) {
         i2(has(131159), has(131158)),
     );
     let f = freset(f);
-    fcurrent(f, v, e, d);
+    fcurrent(f);
     fseek(f, v, e, d, 77, v0(), v0(), i0());
 }
 
@@ -102,7 +102,7 @@ fn case_4(v: &[i64], e: &[u64], d: &[i16]) {
         v1(named(1)),
         i2(has(48), has(9223372036854775805)),
     );
-    fcurrent(f, v, e, d);
+    fcurrent(f);
     let f = freset(f);
     let f = fnext(f, v, e, d, v0(), v0(), i0());
     fnext(

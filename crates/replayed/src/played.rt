@@ -1,4 +1,4 @@
-// One call a line: what it answers, then the filter's state where there is a filter, then the scan's window and state.
+// One call a line: what it answers, then the filter's state where there is a filter, then the scan's window, state and carried value.
 use bounds::Bound;
 use bounds::BoundaryType;
 use bounds::Bounds;
@@ -11,6 +11,7 @@ use filter_interval::Filter;
 use filter_interval::FilterState;
 use filter_interval::Fitted;
 use filter_interval::Sifted;
+use loftsplice::scan::Carried;
 use loftsplice::scan::Made;
 use loftsplice::scan::Scan;
 use loftsplice::scan::State;
@@ -31,6 +32,7 @@ pub fn new(starts: &[i64], ends: &[u64], steps: &[i16]) -> Scan {
                 start: 0,
                 end: 0,
                 state: State::Ended,
+                value: Carried::None,
             }
         }
     }
@@ -52,8 +54,8 @@ pub fn reset(s: Scan, starts: &[i64], ends: &[u64], steps: &[i16]) -> Scan {
     shown::told(s.reset(starts, ends, steps))
 }
 
-pub fn current(s: Scan, starts: &[i64], ends: &[u64], steps: &[i16]) {
-    shown::answer(s.current(starts, ends, steps));
+pub fn current(s: Scan) {
+    shown::answer(s.current());
     text(b"\n");
 }
 
@@ -248,8 +250,8 @@ pub fn fseek(
     sifted(f.seek(starts, ends, steps, target, lower, upper, given))
 }
 
-pub fn fcurrent(f: Filter, starts: &[i64], ends: &[u64], steps: &[i16]) {
-    shown::answer(f.current(starts, ends, steps));
+pub fn fcurrent(f: Filter) {
+    shown::answer(f.current());
     text(b"\n");
 }
 
