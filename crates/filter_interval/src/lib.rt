@@ -12,6 +12,8 @@ use crate::sifting::sift;
 use bounds::Bounds;
 use bounds::Inputs;
 use bounds::Limit;
+use bounds::Mode;
+use bounds::Side;
 use bounds::Variables;
 use bounds::fold;
 use loftsplice::scan::Move;
@@ -26,9 +28,10 @@ pub enum FilterState {
     After,
 }
 
-// A filter: its scan, the constant bounds folded, its state.
+// A filter: its scan, how it folds upper bounds, the constant bounds folded, its state.
 pub struct Filter {
     pub scan: Scan,
+    pub mode: Mode,
     pub lower: Limit,
     pub upper: Limit,
     pub state: FilterState,
@@ -58,9 +61,9 @@ fn none_or_refused(answer: Answer) -> Answer
 }
 
 impl Filter {
-    // "Constant bounds are folded when a filter is made"; or refused 8.
-    pub fn new(scan: Scan, lower: Bounds, upper: Bounds) -> Fitted
-        ensures { λ r. ⌜ saysFitted r ≡ fitOf scan lower upper ⌝ }
+    // "Constant bounds are folded when a filter is made", in the mode that is "chosen when a filter is made"; or refused 8.
+    pub fn new(scan: Scan, mode: Mode, lower: Bounds, upper: Bounds) -> Fitted
+        ensures { λ r. ⌜ saysFitted r ≡ fitOf scan mode lower upper ⌝ }
     {
         let lows = lower.count;
         let ups = upper.count;
@@ -70,10 +73,11 @@ impl Filter {
         if 16 < ups {
             return Fitted::Refused(Refusal::Bounds);
         }
-        let low = fold(true, lower);
-        let up = fold(false, upper);
+        let low = fold(Side::Lower, lower);
+        let up = fold(Side::Upper(mode), upper);
         Fitted::Ready(Filter {
             scan: scan,
+            mode: mode,
             lower: low,
             upper: up,
             state: FilterState::Before,
@@ -132,10 +136,12 @@ impl Filter {
         ensures { λ r. ⌜ r ≡ filterResetOf self ⌝ }
     {
         let scan = self.scan;
+        let mode = self.mode;
         let lower = self.lower;
         let upper = self.upper;
         Filter {
             scan: scan,
+            mode: mode,
             lower: lower,
             upper: upper,
             state: FilterState::Before,

@@ -16,6 +16,7 @@ use bounds::BoundaryType;
 use bounds::Inputs;
 use bounds::Limit;
 use bounds::Reading;
+use bounds::Side;
 use bounds::Variables;
 use bounds::choose;
 use bounds::is_exclusive;
@@ -60,7 +61,7 @@ fn raise(step: Move, low: Limit) -> Limit
                     boundary: BoundaryType::Inclusive,
                     value: target,
                 };
-                Limit::To(choose(true, bound, inclusive))
+                Limit::To(choose(Side::Lower, bound, inclusive))
             }
         },
     }
@@ -83,16 +84,17 @@ fn lead_to(low: Limit) -> Lead
     }
 }
 
-// Before: the folded constants with the variable bounds as read.
+// Before: the folded constants with the variable bounds as read, the upper ones in the filter's mode.
 fn begin(filter: Filter, step: Move, lower: Variables, upper: Variables, inputs: Inputs) -> Asked
     ensures told { λ r. ⌜ r .unread ≡ unread (handing step lower upper inputs) Before ⌝ }
     ensures lead { λ r. ⌜ Leads (handing step lower upper inputs) filter Before (r .lead) ⌝ }
     ensures up { λ r. ⌜ Limits (handing step lower upper inputs) filter Before (r .upper) ⌝ }
 {
+    let mode = filter.mode;
     let low = filter.lower;
     let up = filter.upper;
-    let first = read(true, low, lower, inputs);
-    let second = read(false, up, upper, inputs);
+    let first = read(Side::Lower, low, lower, inputs);
+    let second = read(Side::Upper(mode), up, upper, inputs);
     let Reading::As(below) = first else {
         return Asked {
             unread: true,
@@ -141,6 +143,7 @@ fn ask(filter: Filter, step: Move, lower: Variables, upper: Variables, inputs: I
 fn settle(filter: Filter, up: Limit, moved: Moved) -> Sifted
     ensures { λ r. ⌜ siftingOf r ≡ settled filter up (outcomeOf moved) ⌝ }
 {
+    let mode = filter.mode;
     let lower = filter.lower;
     let upper = filter.upper;
     let scan = moved.scan;
@@ -156,6 +159,7 @@ fn settle(filter: Filter, up: Limit, moved: Moved) -> Sifted
             return Sifted {
                 filter: Filter {
                     scan: scan,
+                    mode: mode,
                     lower: lower,
                     upper: upper,
                     state: FilterState::Within(up),
@@ -167,6 +171,7 @@ fn settle(filter: Filter, up: Limit, moved: Moved) -> Sifted
     Sifted {
         filter: Filter {
             scan: scan,
+            mode: mode,
             lower: lower,
             upper: upper,
             state: FilterState::After,
