@@ -16,6 +16,7 @@ use Rattle.meaning.specs.Sequence.{Sequence, Source, rises}
 use Rattle.loftsplice.specs.declared.scan.Move.the-variants.{Next, Seek}
 use Rattle.loftsplice.specs.declared.scan.Scan.{Scan}
 use Rattle.bounds.specs.declared.Bound.{Bound}
+use Rattle.bounds.specs.declared.Mode.{Mode}
 use Rattle.bounds.specs.declared.Limit.{Limit}
 use Rattle.filter_interval.specs.declared.FilterState.{FilterState}
 use Rattle.filter_interval.specs.declared.FilterState.the-variants.{Before, Within, After}
@@ -92,14 +93,14 @@ gather true true false r rest f = sym (and-false r false refl)
 gather true true true r rest f = f refl ∙ sym (and-true r)
 
 -- THE RULE. The calls of a run on a new filter and a fresh scan are all accepted exactly if the run is acceptable.
-pub accepted-exactly-if : (p : Source) (start end : ℕ) (lows ups : List Bound) (k : Call) (ks : List Call)
-    → every accepted (answers p start end lows ups k ks) ≡ acceptable p start end k ks
+pub accepted-exactly-if : (p : Source) (start end : ℕ) (mode : Mode) (lows ups : List Bound) (k : Call) (ks : List Call)
+    → every accepted (answers p start end mode lows ups k ks) ≡ acceptable p start end k ks
 unfolding every answersOf acceptable
-accepted-exactly-if p s e lows ups k ks =
+accepted-exactly-if p s e mode lows ups k ks =
     rw first (gather W (not (tooMany k)) (allReadable k) (every (λ k. not (tooMany k)) ks) (every accepted (answersOf p (callOf p k f .filter) ks)) rest)
   where
     f : Filter
-    f = newFilter (fresh s e) lows ups
+    f = newFilter (fresh s e) mode lows ups
 
     W : Bool
     W = risingWindow p s e
@@ -134,11 +135,11 @@ module _ (k : Call) (h : constant k ≡ true) where
   constant-upper ups = rw (unvaried .1, append-nil ups)
 
 -- a run of such calls over a window that rises is accepted
-pub constant-accepted : (p : Source) (start end : ℕ) → risingWindow p start end ≡ true → (lows ups : List Bound) (k : Call) (ks : List Call) → every constant (k ∷ ks) ≡ true
-    → every accepted (answers p start end lows ups k ks) ≡ true
+pub constant-accepted : (p : Source) (start end : ℕ) → risingWindow p start end ≡ true → (mode : Mode) (lows ups : List Bound) (k : Call) (ks : List Call) → every constant (k ∷ ks) ≡ true
+    → every accepted (answers p start end mode lows ups k ks) ≡ true
 unfolding acceptable readable every
-constant-accepted p start end rising lows ups k ks h =
-    accepted-exactly-if p start end lows ups k ks
+constant-accepted p start end rising mode lows ups k ks h =
+    accepted-exactly-if p start end mode lows ups k ks
     ∙ rw (rising, at-every (λ (k : Call). not (tooMany k)) (k ∷ ks) (λ x i. not-yes (tooMany x) (none x i .2)), none k (inl refl) .0, none k (inl refl) .1)
   where
     none : (x : Call) → In x (k ∷ ks) → (variables (x .lower) ≡ []) × (variables (x .upper) ≡ []) × (tooMany x ≡ false)

@@ -16,12 +16,14 @@ use Rattle.meaning.specs.Refusals.{Gives}
 use Rattle.meaning.specs.Sequence.{Source, rises}
 use Rattle.meaning.specs.Column.{Column, sizeOf, sequenceOf, sound, sourceOf}
 use Rattle.bounds.specs.declared.Bound.{Bound}
+use Rattle.bounds.specs.declared.Mode.{Mode}
+use Rattle.bounds.specs.declared.Mode.the-variants.{InclusiveWins, ExclusiveWins}
 use Rattle.loftsplice.specs.declared.scan.Move.the-variants.{Next, Seek}
 use Rattle.loftsplice.specs.declared.scan.Move.{Move}
 use Rattle.loftsplice.specs.Scan.{fresh, newOf, seekOf, saysAll}
 use Rattle.filter_interval.specs.Filter.{Call, newFilter}
 use Rattle.theorems.specs.Exact.{accepted}
-use Rattle.theorems.specs.Demand3.{answers, moves, allLower, allUpper, meetsAll, tied, counts, expectedFrom, expected}
+use Rattle.theorems.specs.Demand3.{answers, moves, allLower, allUpper, meetsAll, tied, tiedIn, counts, expectedFrom, expected}
 use Rattle.theorems.specs.Runs.{scanAnswers, anything, risingWindow}
 use Rattle.theorems.specs.Audit.{Holds, HoldsBetween, ascendingFrom, ascending, seeks, filled, constant}
 use Rattle.theorems.proofs.ColumnCalls.{sound-source}
@@ -94,32 +96,33 @@ module _ (c : Column) (is-sound : sound c ≡ true) (is-rising : rises (sequence
 
 -- ---- through a filter, among the elements that meet every bound
 
--- A new filter with any bounds on a fresh scan, a first call k and calls ks after it, all accepted; no least upper value is given both ways.
-module _ (p : Source) (start end : ℕ) (lows ups : List Bound) (k : Call) (ks : List Call)
-    (all-accepted : every accepted (answers p start end lows ups k ks) ≡ true) (no-tie : tied (allUpper ups k) ≡ false) where
+-- A new filter with any bounds on a fresh scan, a first call k and calls ks after it, all accepted; no least upper value is given both ways where the
+-- inclusive one would win.
+module _ (p : Source) (start end : ℕ) (mode : Mode) (lows ups : List Bound) (k : Call) (ks : List Call)
+    (all-accepted : every accepted (answers p start end mode lows ups k ks) ≡ true) (no-tie : tiedIn mode (allUpper ups k) ≡ false) where
   abbrev meets : ℤ → Bool
   meets = meetsAll (allLower lows k) (allUpper ups k)
 
-  run-is : (ms : List Move) → (counts (allLower lows k) (k .move) ∷ moves ks) ≡ ms → answers p start end lows ups k ks ≡ expectedFrom (p .sequence) end meets start start ms
+  run-is : (ms : List Move) → (counts (allLower lows k) (k .move) ∷ moves ks) ≡ ms → answers p start end mode lows ups k ks ≡ expectedFrom (p .sequence) end meets start start ms
   unfolding expected
-  run-is ms h = answers-are-expected p start end lows ups k ks all-accepted no-tie ∙ ap (expectedFrom (p .sequence) end meets start start) h
+  run-is ms h = answers-are-expected p start end mode lows ups k ks all-accepted no-tie ∙ ap (expectedFrom (p .sequence) end meets start start) h
 
   -- the j-th number, and the j-th of the answers that each would have alone
   each-alone : (xs : List ℤ) (j : ℕ) → j < length xs
       → (getD (map (alone (p .sequence) start end meets) xs) j (Gives none) ≡ Gives (some (getD xs j (pos 0))))
       ↔ HoldsBetween (p .sequence) start end (allLower lows k) (allUpper ups k) (getD xs j (pos 0))
   each-alone = each (alone (p .sequence) start end meets) (HoldsBetween (p .sequence) start end (allLower lows k) (allUpper ups k))
-      (alone-exactly-if (p .sequence) start end meets (run-rises p k ks (newFilter (fresh start end) lows ups) all-accepted))
+      (alone-exactly-if (p .sequence) start end meets (run-rises p k ks (newFilter (fresh start end) mode lows ups) all-accepted))
 
   -- With a lower bound: where all calls are seeks, of x1 ≤ x2 ≤ .., each is answered with itself exactly if it is in the window and meets every bound.
   pub each-given-exactly-if : (xs : List ℤ) → (counts (allLower lows k) (k .move) ∷ moves ks) ≡ map Seek xs → ascending xs ≡ true → (j : ℕ) → j < length xs
-      → (getD (answers p start end lows ups k ks) j (Gives none) ≡ Gives (some (getD xs j (pos 0))))
+      → (getD (answers p start end mode lows ups k ks) j (Gives none) ≡ Gives (some (getD xs j (pos 0))))
       ↔ HoldsBetween (p .sequence) start end (allLower lows k) (allUpper ups k) (getD xs j (pos 0))
   each-given-exactly-if xs h a j l = rw (run-is (map Seek xs) h ∙ seeks-alone (p .sequence) start end meets xs a) (each-alone xs j l)
 
   -- A first call that is a next, or counts as one since there is no lower bound: the same holds of the seeks after it.
   pub each-later-given-exactly-if : (xs : List ℤ) → counts (allLower lows k) (k .move) ≡ Next → moves ks ≡ map Seek xs → ascending xs ≡ true → (j : ℕ) → j < length xs
-      → (getD (answers p start end lows ups k ks) (suc j) (Gives none) ≡ Gives (some (getD xs j (pos 0))))
+      → (getD (answers p start end mode lows ups k ks) (suc j) (Gives none) ≡ Gives (some (getD xs j (pos 0))))
       ↔ HoldsBetween (p .sequence) start end (allLower lows k) (allUpper ups k) (getD xs j (pos 0))
   each-later-given-exactly-if xs n h a j l =
       rw (run-is (Next ∷ map Seek xs) (rw (n, h)) ∙ seeks-after-next (p .sequence) start end meets xs a) (each-alone xs j l)
@@ -130,32 +133,37 @@ module _ (p : Source) (start end : ℕ) (rising : risingWindow p start end ≡ t
   unfolding every
   first = and-left (constant k) (every constant ks) constants
 
-  all-accepted : (lows ups : List Bound) → every accepted (answers p start end lows ups k ks) ≡ true
-  all-accepted lows ups = constant-accepted p start end rising lows ups k ks constants
+  all-accepted : (mode : Mode) (lows ups : List Bound) → every accepted (answers p start end mode lows ups k ks) ≡ true
+  all-accepted mode lows ups = constant-accepted p start end rising mode lows ups k ks constants
 
   -- with a lower bound
-  pub each-between-exactly-if : (b : Bound) (bs ups : List Bound) → tied ups ≡ false
+  pub each-between-exactly-if : (mode : Mode) (b : Bound) (bs ups : List Bound) → tiedIn mode ups ≡ false
       → (xs : List ℤ) → moves (k ∷ ks) ≡ map Seek xs → ascending xs ≡ true → (j : ℕ) → j < length xs
-      → (getD (answers p start end (b ∷ bs) ups k ks) j (Gives none) ≡ Gives (some (getD xs j (pos 0))))
+      → (getD (answers p start end mode (b ∷ bs) ups k ks) j (Gives none) ≡ Gives (some (getD xs j (pos 0))))
       ↔ HoldsBetween (p .sequence) start end (b ∷ bs) ups (getD xs j (pos 0))
-  each-between-exactly-if b bs ups t xs h a j l =
+  each-between-exactly-if mode b bs ups t xs h a j l =
       rw (constant-lower k first (b ∷ bs), constant-upper k first ups) at
-      (each-given-exactly-if p start end (b ∷ bs) ups k ks (all-accepted (b ∷ bs) ups) (rw (constant-upper k first ups) t) xs h a j l)
+      (each-given-exactly-if p start end mode (b ∷ bs) ups k ks (all-accepted mode (b ∷ bs) ups) (rw (constant-upper k first ups) t) xs h a j l)
 
   -- with no lower bound, or a first call that is a next: the seeks after the first call
-  pub each-later-between-exactly-if : (lows ups : List Bound) → tied ups ≡ false → counts lows (k .move) ≡ Next
+  pub each-later-between-exactly-if : (mode : Mode) (lows ups : List Bound) → tiedIn mode ups ≡ false → counts lows (k .move) ≡ Next
       → (xs : List ℤ) → moves ks ≡ map Seek xs → ascending xs ≡ true → (j : ℕ) → j < length xs
-      → (getD (answers p start end lows ups k ks) (suc j) (Gives none) ≡ Gives (some (getD xs j (pos 0))))
+      → (getD (answers p start end mode lows ups k ks) (suc j) (Gives none) ≡ Gives (some (getD xs j (pos 0))))
       ↔ HoldsBetween (p .sequence) start end lows ups (getD xs j (pos 0))
-  each-later-between-exactly-if lows ups t n xs h a j l =
+  each-later-between-exactly-if mode lows ups t n xs h a j l =
       rw (constant-lower k first lows, constant-upper k first ups) at
-      (each-later-given-exactly-if p start end lows ups k ks (all-accepted lows ups) (rw (constant-upper k first ups) t) xs (rw (constant-lower k first lows) n) h a j l)
+      (each-later-given-exactly-if p start end mode lows ups k ks (all-accepted mode lows ups) (rw (constant-upper k first ups) t) xs (rw (constant-lower k first lows) n) h a j l)
+
+  never-tied : (mode : Mode) → tiedIn mode [] ≡ false
+  unfolding tied someOf
+  never-tied InclusiveWins = refl
+  never-tied ExclusiveWins = refl
 
   -- With no bounds at all the filter answers as its scan does, but that its first call counts as a next.
-  pub unbounded-as-scan : answers p start end [] [] k ks ≡ scanAnswers p (fresh start end) (Next ∷ moves ks)
-  unfolding expected meetsAll tied every someOf
-  unbounded-as-scan =
+  pub unbounded-as-scan : (mode : Mode) → answers p start end mode [] [] k ks ≡ scanAnswers p (fresh start end) (Next ∷ moves ks)
+  unfolding expected meetsAll every
+  unbounded-as-scan mode =
       let low : allLower [] k ≡ [] = constant-lower k first [] in
       let up : allUpper [] k ≡ [] = constant-upper k first [] in
-      answers-are-expected p start end [] [] k ks (all-accepted [] []) (rw up)
+      answers-are-expected p start end mode [] [] k ks (all-accepted mode [] []) (rw up (never-tied mode))
       ∙ rw (low, up) (sym (scan-answers-are-expected p start end (Next ∷ moves ks) (rising-accepted p start end rising (Next ∷ moves ks))))

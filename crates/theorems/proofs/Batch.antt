@@ -24,7 +24,7 @@ use Rattle.loftsplice.specs.Listing.{Span, those, valuesIn, Batch, low, up, spa
 use Rattle.loftsplice.proofs.Windows.{windows-length, window-there, every-window, counts-length}
 use Rattle.loftsplice.proofs.ListingCases.{windows-paired}
 use Rattle.theorems.specs.Exact.{accepted}
-use Rattle.theorems.specs.Demand3.{answers, moves, meetsAll, tied}
+use Rattle.theorems.specs.Demand3.{answers, moves, meetsAll, tiedIn}
 use Rattle.theorems.specs.Runs.{isNext, listing, risingWindow}
 use Rattle.theorems.specs.Audit.{constant}
 use Rattle.theorems.specs.Batch.{span, elements, meetsFolded, total, howMany, count, begin, part}
@@ -107,9 +107,9 @@ module _ (b : Batch) (h : accepted (listOf b) ≡ true) where
         ∙ those-number (meetsFolded b) (elements b k)
 
     -- where no least upper value is given both ways: the elements that meet every bound, as in demand 3
-    pub part-meets-all : tied (bounds (b .upper)) ≡ false → part b k ≡ those (meetsAll (bounds (b .lower)) (bounds (b .upper))) (elements b k)
+    pub part-meets-all : tiedIn (b .mode) (bounds (b .upper)) ≡ false → part b k ≡ those (meetsAll (bounds (b .lower)) (bounds (b .upper))) (elements b k)
     part-meets-all t =
-        part-is ∙ ap (λ (f : ℤ → Bool). those f (elements b k)) (through (bounds (b .lower)) (bounds (b .upper)) ∙ untied (bounds (b .lower)) (bounds (b .upper)) t)
+        part-is ∙ ap (λ (f : ℤ → Bool). those f (elements b k)) (through (b .mode) (bounds (b .lower)) (bounds (b .upper)) ∙ untied (b .mode) (bounds (b .lower)) (bounds (b .upper)) t)
 
     -- it rises, within a sound column
     pub span-rises : risingWindow (b .source) (span b k .start) (span b k .end) ≡ true
@@ -127,22 +127,22 @@ module _ (b : Batch) (h : accepted (listOf b) ≡ true) where
     -- THE THEOREM: "the values that a fresh scan and a new filter give". Calls of next alone, with no variable bounds, on a fresh scan over the
     -- window and a new filter with the bounds, list the window's part: its values one by one, then none.
     pub part-is-what-next-gives : (c : Call) (cs : List Call) → every constant (c ∷ cs) ≡ true → every isNext (moves (c ∷ cs)) ≡ true
-        → answers (b .source) (span b k .start) (span b k .end) (bounds (b .lower)) (bounds (b .upper)) c cs ≡ listing (length (c ∷ cs)) (part b k)
+        → answers (b .source) (span b k .start) (span b k .end) (b .mode) (bounds (b .lower)) (bounds (b .upper)) c cs ≡ listing (length (c ∷ cs)) (part b k)
     unfolding every
     part-is-what-next-gives c cs fixed nexts =
         let lows = bounds (b .lower) in
         let ups = bounds (b .upper) in
         let first : constant c ≡ true = and-left (constant c) (every constant cs) fixed in
-        next-alone-lists-at-any-bounds (b .source) (span b k .start) (span b k .end) lows ups c cs
-        (constant-accepted (b .source) (span b k .start) (span b k .end) span-rises lows ups c cs fixed) nexts
-        ∙ rw (constant-lower c first lows, constant-upper c first ups, ← through lows ups) (ap (listing (length (c ∷ cs))) (sym part-is))
+        next-alone-lists-at-any-bounds (b .source) (span b k .start) (span b k .end) (b .mode) lows ups c cs
+        (constant-accepted (b .source) (span b k .start) (span b k .end) span-rises (b .mode) lows ups c cs fixed) nexts
+        ∙ rw (constant-lower c first lows, constant-upper c first ups, ← through (b .mode) lows ups) (ap (listing (length (c ∷ cs))) (sym part-is))
 
--- "Windows may repeat or overlap; each is listed in full": a window's part depends on the window, the column and the bounds, and on nothing else:
+-- "Windows may repeat or overlap; each is listed in full": a window's part depends on the window, the column, the mode and the bounds, and on nothing else:
 -- not on its place, nor on the other windows, in one listing or in two.
 pub same-window-same-part : (a b : Batch) → accepted (listOf a) ≡ true → accepted (listOf b) ≡ true
-    → a .source ≡ b .source → a .lower ≡ b .lower → a .upper ≡ b .upper
+    → a .source ≡ b .source → a .mode ≡ b .mode → a .lower ≡ b .lower → a .upper ≡ b .upper
     → (j k : ℕ) → j < length (a .starts) → k < length (b .starts) → span a j ≡ span b k → part a j ≡ part b k
-same-window-same-part a b f g s lo hi j k l m w = part-is a f j l ∙ same ∙ sym (part-is b g k m)
+same-window-same-part a b f g s o lo hi j k l m w = part-is a f j l ∙ same ∙ sym (part-is b g k m)
   where
     same : those (meetsFolded a) (elements a j) ≡ those (meetsFolded b) (elements b k)
-    same = rw (s, lo, hi, ap (λ (x : Span). x .start) w, ap (λ (x : Span). x .end) w)
+    same = rw (s, o, lo, hi, ap (λ (x : Span). x .start) w, ap (λ (x : Span). x .end) w)

@@ -21,6 +21,7 @@ use Rattle.loftsplice.specs.declared.scan.Scan.{Scan}
 use Rattle.bounds.specs.declared.BoundaryType.{BoundaryType}
 use Rattle.bounds.specs.declared.BoundaryType.the-variants.{Inclusive, Exclusive}
 use Rattle.bounds.specs.declared.Bound.{Bound}
+use Rattle.bounds.specs.declared.Mode.{Mode}
 use Rattle.bounds.specs.declared.Variable.{Variable}
 use Rattle.bounds.specs.declared.Input.{Input}
 use Rattle.bounds.specs.declared.Limit.the-variants.{To}
@@ -30,10 +31,10 @@ use Rattle.loftsplice.specs.Scan.{fresh, elementIn}
 use Rattle.bounds.specs.Bounds.{isExclusive, less, greater, lesser, fold, greatest, least, meetsLower, meetsUpper, above, within, inputs, variables, valueNamed, asRead}
 use Rattle.filter_interval.specs.Filter.{Call, lowerOf, upperOf, newFilter, callOf, filterResetOf, answersOf}
 use Rattle.theorems.specs.Exact.{accepted}
-use Rattle.theorems.specs.Demand3.{answers, moves, allLower, allUpper, meetsAll, tied, earliest, answerAt, counts, expectedFrom}
+use Rattle.theorems.specs.Demand3.{answers, moves, allLower, allUpper, meetsAll, tiedIn, earliest, answerAt, counts, expectedFrom}
 use Rattle.theorems.specs.Runs.{letThrough}
 use Rattle.theorems.specs.Comments.{Inside, Outside, NotLower, included, satisfiesLower, satisfiesUpper}
-use Rattle.theorems.proofs.Bounds.{lower-all, upper-all, upper-untied, folded-twice}
+use Rattle.theorems.proofs.Bounds.{fold-in, lesser-one, lower-all, upper-all, upper-untied, folded-twice}
 use Rattle.theorems.proofs.Expected.{meets-there}
 use Rattle.theorems.proofs.Folded.{untied}
 use Rattle.theorems.proofs.Demand3.{answers-at-any-bounds}
@@ -59,40 +60,26 @@ variable-value ins v vs x h = rw h
 
 -- ---- many bounds
 
--- of two, one is chosen; so of many it is one of them
-module _ (f : Bound → Bound → Bound) (one : (a b : Bound) → (f a b ≡ a) ⊎ (f a b ≡ b)) where
-  fold-in : (b : Bound) (bs : List Bound) → In (fold f b bs) (b ∷ bs)
-  unfolding fold
-  fold-in b [] = inl refl
-  fold-in b (x ∷ xs) = by (one b x) (fold-in (f b x) xs)
-    where
-      by : (f b x ≡ b) ⊎ (f b x ≡ x) → In (fold f (f b x) xs) (f b x ∷ xs) → In (fold f (f b x) xs) (b ∷ (x ∷ xs))
-      by w (inr i) = inr (inr i)
-      by (inl e) (inl h) = inl (h ∙ e)
-      by (inr e) (inl h) = inr (inl (h ∙ e))
-
 greater-one : (a b : Bound) → (greater a b ≡ a) ⊎ (greater a b ≡ b)
 greater-one a b = either (less a b) (λ t. inr (rw t)) (λ t. inl (rw t))
-
-lesser-one : (a b : Bound) → (lesser a b ≡ a) ⊎ (lesser a b ≡ b)
-lesser-one a b = either (less b a) (λ t. inr (rw t)) (λ t. inl (rw t))
 
 -- "Aggregate all provided lower bounds into one (equivalent) lower bound.": it is one of them, and is met exactly if all are
 pub aggregate-lower : (b : Bound) (bs : List Bound)
     → (c : Bound) × (greatest (b ∷ bs) ≡ To c) × In c (b ∷ bs) × ((v : ℤ) → meetsLower v c ≡ satisfiesLower (b ∷ bs) v)
 aggregate-lower b bs = (fold greater b bs, refl, fold-in greater greater-one b bs, λ v. lower-all (b ∷ bs) v)
 
--- The same sentence stands above the upper bounds, "(equivalent) lower bound" too: it is the least of them, and met exactly if all are but for a tie.
-pub aggregate-upper : (b : Bound) (bs : List Bound)
-    → (c : Bound) × (least (b ∷ bs) ≡ To c) × In c (b ∷ bs) × (tied (b ∷ bs) ≡ false → (v : ℤ) → meetsUpper v c ≡ satisfiesUpper (b ∷ bs) v)
-aggregate-upper b bs = (fold lesser b bs, refl, fold-in lesser lesser-one b bs, λ t v. upper-untied (b ∷ bs) v t)
+-- The same sentence stands above the upper bounds, "(equivalent) lower bound" too: it is the least of them, and met exactly if all are, but
+-- for a tie where the inclusive one wins; so where the exclusive one wins the comment is kept.
+pub aggregate-upper : (mode : Mode) (b : Bound) (bs : List Bound)
+    → (c : Bound) × (least mode (b ∷ bs) ≡ To c) × In c (b ∷ bs) × (tiedIn mode (b ∷ bs) ≡ false → (v : ℤ) → meetsUpper v c ≡ satisfiesUpper (b ∷ bs) v)
+aggregate-upper mode b bs = (fold (lesser mode) b bs, refl, fold-in (lesser mode) (lesser-one mode) b bs, λ t v. upper-untied mode (b ∷ bs) v t)
 
 -- "Return the current lower bound.", "Return the current upper bound.": of the constants and of the variables as read
-pub current-lower : (s : Scan) (lows ups : List Bound) (k : Call) → lowerOf (newFilter s lows ups) k ≡ greatest (allLower lows k)
-current-lower s lows ups k = folded-twice greater lows (asRead (inputs (k .inputs)) (variables (k .lower)))
+pub current-lower : (s : Scan) (mode : Mode) (lows ups : List Bound) (k : Call) → lowerOf (newFilter s mode lows ups) k ≡ greatest (allLower lows k)
+current-lower s mode lows ups k = folded-twice greater lows (asRead (inputs (k .inputs)) (variables (k .lower)))
 
-pub current-upper : (s : Scan) (lows ups : List Bound) (k : Call) → upperOf (newFilter s lows ups) k ≡ least (allUpper ups k)
-current-upper s lows ups k = folded-twice lesser ups (asRead (inputs (k .inputs)) (variables (k .upper)))
+pub current-upper : (s : Scan) (mode : Mode) (lows ups : List Bound) (k : Call) → upperOf (newFilter s mode lows ups) k ≡ least mode (allUpper ups k)
+current-upper s mode lows ups k = folded-twice (lesser mode) ups (asRead (inputs (k .inputs)) (variables (k .upper)))
 
 -- ---- what the current value has to satisfy
 
@@ -114,12 +101,12 @@ in-front b (x ∷ xs) ys (inr i) = inr (in-front b xs ys i)
 -- "[ColumnScanFilterInterval] does only return values within a certain interval", "[ColumnScan] that restricts its subscan to an interval of permissable value.":
 -- a new filter on a fresh scan, calls that are all accepted, and a value v that one of them gives, which is then the filter's current value (FilterStates
 -- `current-is-the-answer`).
-module _ (p : Source) (start end : ℕ) (lows ups : List Bound) (k : Call) (ks : List Call) (all-accepted : every accepted (answers p start end lows ups k ks) ≡ true)
-    (v : ℤ) (given : In (Gives (some v)) (answers p start end lows ups k ks)) where
-  pub only-within : letThrough (allLower lows k) (allUpper ups k) v ≡ true
+module _ (p : Source) (start end : ℕ) (mode : Mode) (lows ups : List Bound) (k : Call) (ks : List Call) (all-accepted : every accepted (answers p start end mode lows ups k ks) ≡ true)
+    (v : ℤ) (given : In (Gives (some v)) (answers p start end mode lows ups k ks)) where
+  pub only-within : letThrough mode (allLower lows k) (allUpper ups k) v ≡ true
   only-within =
-      given-meets (p .sequence) end (letThrough (allLower lows k) (allUpper ups k)) (counts (allLower lows k) (k .move) ∷ moves ks) start start v
-      (rw (answers-at-any-bounds p start end lows ups k ks all-accepted) at given)
+      given-meets (p .sequence) end (letThrough mode (allLower lows k) (allUpper ups k)) (counts (allLower lows k) (k .move) ∷ moves ks) start start v
+      (rw (answers-at-any-bounds p start end mode lows ups k ks all-accepted) at given)
 
   -- "The current value has to satisfy all the lower bounds in this list": the variables as read at the first call, and the constants
   pub all-lower-met : satisfiesLower (allLower lows k) v ≡ true
@@ -130,30 +117,30 @@ module _ (p : Source) (start end : ℕ) (lows ups : List Bound) (k : Call) (ks :
   pub constant-lower-met : above (greatest lows) v ≡ true
   constant-lower-met = lower-all lows v ∙ at-every (meetsLower v) lows (λ b i. every-at (meetsLower v) (allLower lows k) b all-lower-met (in-front b lows _ i))
 
-  -- The same of upper bounds, where no least upper value is given both ways; where one is, it is let through: Bounds `upper-all`.
-  module _ (no-tie : tied (allUpper ups k) ≡ false) where
+  -- The same of upper bounds: where the exclusive one wins always, else where no least upper value is given both ways; where one is, it is let through: Bounds `upper-all`.
+  module _ (no-tie : tiedIn mode (allUpper ups k) ≡ false) where
     -- "The current value has to satisfy all the upper bounds in this list"
     pub all-upper-met : satisfiesUpper (allUpper ups k) v ≡ true
     unfolding meetsAll
-    all-upper-met = and-right (every (meetsLower v) (allLower lows k)) _ (ap (λ (t : ℤ → Bool). t v) (sym (untied (allLower lows k) (allUpper ups k) no-tie)) ∙ only-within)
+    all-upper-met = and-right (every (meetsLower v) (allLower lows k)) _ (ap (λ (t : ℤ → Bool). t v) (sym (untied mode (allLower lows k) (allUpper ups k) no-tie)) ∙ only-within)
 
     -- "The current value has to satisfy this constant upper bound."
-    pub constant-upper-met : within (least ups) v ≡ true
-    constant-upper-met = upper-all ups v ∙ rw (at-every (meetsUpper v) ups (λ b i. every-at (meetsUpper v) (allUpper ups k) b all-upper-met (in-front b ups _ i)))
+    pub constant-upper-met : within (least mode ups) v ≡ true
+    constant-upper-met = upper-all mode ups v ∙ rw (at-every (meetsUpper v) ups (λ b i. every-at (meetsUpper v) (allUpper ups k) b all-upper-met (in-front b ups _ i)))
 
 -- "[ColumnScanFilterInterval]'s value is lower than the lower bound of the interval" of a filter that is Before: not after reset. Where a first call gives v, reset
 -- leaves the filter Before and its scan on v, which is not lower than any lower bound.
-module _ (p : Source) (start end : ℕ) (lows ups : List Bound) (k : Call) (v : ℤ) where
+module _ (p : Source) (start end : ℕ) (mode : Mode) (lows ups : List Bound) (k : Call) (v : ℤ) where
   abbrev called : Filter
-  called = callOf p k (newFilter (fresh start end) lows ups) .filter
+  called = callOf p k (newFilter (fresh start end) mode lows ups) .filter
 
-  pub before-not-lower : callOf p k (newFilter (fresh start end) lows ups) .said ≡ Gives (some v)
+  pub before-not-lower : callOf p k (newFilter (fresh start end) mode lows ups) .said ≡ Gives (some v)
       → (filterResetOf called .state ≡ Before) × (elementIn (p .sequence) (filterResetOf called .scan .state) ≡ some v) × NotLower (allLower lows k) v
   unfolding answersOf every
-  before-not-lower h = (refl, stands, lower-all (allLower lows k) v ∙ all-lower-met p start end lows ups k [] (rw h) v (inl (sym h)))
+  before-not-lower h = (refl, stands, lower-all (allLower lows k) v ∙ all-lower-met p start end mode lows ups k [] (rw h) v (inl (sym h)))
     where
       f : Filter
-      f = newFilter (fresh start end) lows ups
+      f = newFilter (fresh start end) mode lows ups
 
       out : Inside (p .sequence) (upperOf f k) (callOf p k f) ⊎ Outside (p .sequence) (upperOf f k) (callOf p k f) → elementIn (p .sequence) (called .scan .state) ≡ some v
       out (inl i) = let e : Gives (some (i .value)) ≡ Gives (some v) = sym (i .gives) ∙ h in let is : i .value ≡ v = cc in i .stands-on ∙ ap some is

@@ -1,4 +1,4 @@
--- What a folded bound says: `lower-all`, `upper-all` and `upper-untied`. Assumes nothing.
+-- What a folded bound says: `lower-all`, `upper-all`, `upper-strict` and `upper-untied`; without a tie the modes fold alike: `modes-fold-alike`. Assumes nothing.
 use mathlib.Core.Path.{_≡_, refl, sym, ap, _∙_}
 use mathlib.Core.Bool.{Bool, true, false, cond, not, _&&_, _||_}
 use mathlib.Core.List.{List, [], _∷_, _++_}
@@ -10,9 +10,12 @@ use Rattle.ranges.proofs.Bools.{either, clash, same, and-left, and-right, and-b
 use Rattle.ranges.proofs.Order.{lt-self, lt-same, lt-not, lt-le, le-lt, lt-trans}
 use Rattle.ranges.proofs.Reading.{reading, both-on}
 use Rattle.bounds.specs.declared.Bound.{Bound}
+use Rattle.bounds.specs.declared.Mode.{Mode}
+use Rattle.bounds.specs.declared.Mode.the-variants.{InclusiveWins, ExclusiveWins}
 use Rattle.bounds.specs.declared.Limit.the-variants.{To}
-use Rattle.bounds.specs.Bounds.{isExclusive, less, greater, lesser, fold, folded, greatest, least, meetsLower, meetsUpper, within, listed, above}
-use Rattle.theorems.specs.Demand3.{equal, bothWays, tied}
+use Rattle.bounds.specs.Bounds.{isExclusive, less, tighter, wins, greater, lesser, fold, folded, greatest, least, meetsLower, meetsUpper, within, listed, above}
+use Rattle.theorems.specs.Demand3.{equal, bothWays, tied, tiedIn}
+use Rattle.theorems.specs.Runs.{spared}
 
 -- ---- one bound
 
@@ -46,47 +49,67 @@ upper-down v w b l h = lt-upto (strict b) v (b .value) (lt-le v w (b .value) l (
 
 -- ---- the order of bounds: a is not after b
 
-abbrev NotAfter : Bound → Bound → Type 0
-NotAfter a b = (ltZ (a .value) (b .value) ≡ true) ⊎ ((a .value ≡ b .value) × (strict a ≡ true → strict b ≡ true))
+-- of equal values: by the order, or with the kinds the other way round
+abbrev Kinds : Mode → Bool → Bool → Type 0
+Kinds InclusiveWins s t = s ≡ true → t ≡ true
+Kinds ExclusiveWins s t = t ≡ true → s ≡ true
 
-itself : (b : Bound) → NotAfter b b
-itself b = inr (refl, λ t. t)
+abbrev NotAfter : Mode → Bound → Bound → Type 0
+NotAfter m a b = (ltZ (a .value) (b .value) ≡ true) ⊎ ((a .value ≡ b .value) × Kinds m (strict a) (strict b))
 
-after-trans : (a b c : Bound) → NotAfter a b → NotAfter b c → NotAfter a c
-after-trans a b c (inl p) (inl q) = inl (lt-trans (a .value) (b .value) (c .value) p q)
-after-trans a b c (inl p) (inr q) = inl (ap (ltZ (a .value)) (sym (q .0)) ∙ p)
-after-trans a b c (inr p) (inl q) = inl (ap (λ x. ltZ x (c .value)) (p .0) ∙ q)
-after-trans a b c (inr p) (inr q) = inr (p .0 ∙ q .0, λ t. q .1 (p .1 t))
+itself : (m : Mode) (b : Bound) → NotAfter m b b
+itself InclusiveWins b = inr (refl, λ t. t)
+itself ExclusiveWins b = inr (refl, λ t. t)
 
-is-less : (a b : Bound) → less a b ≡ true → NotAfter a b
-unfolding less
-is-less a b h =
-    let over = not (ltZ (b .value) (a .value)) in
-    let kinds = not (strict a) && strict b in
-    either (ltZ (a .value) (b .value)) inl
-    (λ e. let g : (over && kinds) ≡ true = rw e at h in inr (
-      lt-same (a .value) (b .value) e (not-no (ltZ (b .value) (a .value)) (and-left over kinds g)),
-      λ _. and-right (not (strict a)) (strict b) (and-right over kinds g),
-    ))
+kinds-trans : (m : Mode) (r s t : Bool) → Kinds m r s → Kinds m s t → Kinds m r t
+kinds-trans InclusiveWins r s t p q = λ h. q (p h)
+kinds-trans ExclusiveWins r s t p q = λ h. p (q h)
 
-not-less : (a b : Bound) → less b a ≡ false → NotAfter a b
-unfolding less
-not-less a b h =
-    let under = not (ltZ (a .value) (b .value)) in
-    let other = not (strict b) && strict a in
-    either (ltZ (a .value) (b .value)) inl
-    (λ e. let g : other ≡ false = rw e at (or-right (ltZ (b .value) (a .value)) (under && other) h) in inr (
-      lt-same (a .value) (b .value) e (or-left (ltZ (b .value) (a .value)) (under && other) h),
-      kinds (strict b) (strict a) g,
-    ))
-  where
-    kinds : (t s : Bool) → (not t && s) ≡ false → s ≡ true → t ≡ true
-    kinds true s g h = refl
-    kinds false s g h = clash h g
+after-trans : (m : Mode) (a b c : Bound) → NotAfter m a b → NotAfter m b c → NotAfter m a c
+after-trans m a b c (inl p) (inl q) = inl (lt-trans (a .value) (b .value) (c .value) p q)
+after-trans m a b c (inl p) (inr q) = inl (ap (ltZ (a .value)) (sym (q .0)) ∙ p)
+after-trans m a b c (inr p) (inl q) = inl (ap (λ x. ltZ x (c .value)) (p .0) ∙ q)
+after-trans m a b c (inr p) (inr q) = inr (p .0 ∙ q .0, kinds-trans m (strict a) (strict b) (strict c) (p .1) (q .1))
+
+-- both orders go by value, and then by k
+module _ (a b : Bound) (k : Bool) where
+  by-value : (ltZ (a .value) (b .value) || (not (ltZ (b .value) (a .value)) && k)) ≡ true → (ltZ (a .value) (b .value) ≡ true) ⊎ ((a .value ≡ b .value) × (k ≡ true))
+  by-value h =
+      let over = not (ltZ (b .value) (a .value)) in
+      either (ltZ (a .value) (b .value)) inl
+      (λ e. let g : (over && k) ≡ true = rw e at h in inr (lt-same (a .value) (b .value) e (not-no (ltZ (b .value) (a .value)) (and-left over k g)), and-right over k g))
+
+  not-by-value : (ltZ (b .value) (a .value) || (not (ltZ (a .value) (b .value)) && k)) ≡ false → (ltZ (a .value) (b .value) ≡ true) ⊎ ((a .value ≡ b .value) × (k ≡ false))
+  not-by-value h =
+      let under = not (ltZ (a .value) (b .value)) in
+      either (ltZ (a .value) (b .value)) inl
+      (λ e. inr (lt-same (a .value) (b .value) e (or-left (ltZ (b .value) (a .value)) (under && k) h), rw e at (or-right (ltZ (b .value) (a .value)) (under && k) h)))
+
+-- one kind before the other, and not so
+kinds-yes : (s t : Bool) → (not s && t) ≡ true → s ≡ true → t ≡ true
+kinds-yes s t h g = and-right (not s) t h
+
+kinds-no : (s t : Bool) → (not s && t) ≡ false → t ≡ true → s ≡ true
+kinds-no true t g h = refl
+kinds-no false t g h = clash h g
+
+in-order : (m : Mode) (a b : Bound) (P : Type 0) → (P → Kinds m (strict a) (strict b)) → (ltZ (a .value) (b .value) ≡ true) ⊎ ((a .value ≡ b .value) × P) → NotAfter m a b
+in-order m a b P f (inl l) = inl l
+in-order m a b P f (inr e) = inr (e .0, f (e .1))
+
+winner : (m : Mode) (a b : Bound) → wins m a b ≡ true → NotAfter m a b
+unfolding less tighter
+winner InclusiveWins a b h = in-order InclusiveWins a b _ (kinds-yes (strict a) (strict b)) (by-value a b (not (strict a) && strict b) h)
+winner ExclusiveWins a b h = in-order ExclusiveWins a b _ (kinds-yes (strict b) (strict a)) (by-value a b (not (strict b) && strict a) h)
+
+not-winner : (m : Mode) (a b : Bound) → wins m b a ≡ false → NotAfter m a b
+unfolding less tighter
+not-winner InclusiveWins a b h = in-order InclusiveWins a b _ (kinds-no (strict b) (strict a)) (not-by-value a b (not (strict b) && strict a) h)
+not-winner ExclusiveWins a b h = in-order ExclusiveWins a b _ (kinds-no (strict a) (strict b)) (not-by-value a b (not (strict a) && strict b) h)
 
 -- ---- lower bounds
 
-lower-covers : (v : ℤ) (a b : Bound) → NotAfter a b → meetsLower v b ≡ true → meetsLower v a ≡ true
+lower-covers : (v : ℤ) (a b : Bound) → NotAfter InclusiveWins a b → meetsLower v b ≡ true → meetsLower v a ≡ true
 unfolding meetsLower
 lower-covers v a b (inl l) h = lt-upto (strict a) (a .value) v (lt-le (a .value) (b .value) v l (upto-le (strict b) (b .value) v h))
 lower-covers v a b (inr e) h = rw (e .0) (weaker (strict a) (strict b) (b .value) v (e .1) h)
@@ -94,9 +117,9 @@ lower-covers v a b (inr e) h = rw (e .0) (weaker (strict a) (strict b) (b .value
 pub lower-two : (v : ℤ) (a b : Bound) → meetsLower v (greater a b) ≡ (meetsLower v a && meetsLower v b)
 lower-two v a b = either (less a b)
     (λ e. rw e (same (meetsLower v b) (meetsLower v a && meetsLower v b)
-    (λ h. and-both (meetsLower v a) (meetsLower v b) (lower-covers v a b (is-less a b e) h) h) (and-false (meetsLower v a) (meetsLower v b))))
+    (λ h. and-both (meetsLower v a) (meetsLower v b) (lower-covers v a b (winner InclusiveWins a b e) h) h) (and-false (meetsLower v a) (meetsLower v b))))
     (λ e. rw e (same (meetsLower v a) (meetsLower v a && meetsLower v b)
-    (λ h. and-both (meetsLower v a) (meetsLower v b) h (lower-covers v b a (not-less b a e) h)) (λ h. rw h)))
+    (λ h. and-both (meetsLower v a) (meetsLower v b) h (lower-covers v b a (not-winner InclusiveWins b a e) h)) (λ h. rw h)))
 
 lower-fold : (v : ℤ) (b : Bound) (bs : List Bound) → meetsLower v (fold greater b bs) ≡ (meetsLower v b && every (meetsLower v) bs)
 unfolding fold every
@@ -113,30 +136,58 @@ lower-all (b ∷ bs) v = lower-fold v b bs
 
 -- ---- upper bounds
 
-least-in : (b : Bound) (bs : List Bound) → In (fold lesser b bs) (b ∷ bs)
-unfolding fold
-least-in b [] = inl refl
-least-in b (x ∷ xs) = pick (less x b) (least-in (lesser b x) xs)
+-- of two, one is chosen; so of many it is one of them
+module _ (f : Bound → Bound → Bound) (one : (a b : Bound) → (f a b ≡ a) ⊎ (f a b ≡ b)) where
+  pub fold-in : (b : Bound) (bs : List Bound) → In (fold f b bs) (b ∷ bs)
+  unfolding fold
+  fold-in b [] = inl refl
+  fold-in b (x ∷ xs) = by (one b x) (fold-in (f b x) xs)
+    where
+      by : (f b x ≡ b) ⊎ (f b x ≡ x) → In (fold f (f b x) xs) (f b x ∷ xs) → In (fold f (f b x) xs) (b ∷ (x ∷ xs))
+      by w (inr i) = inr (inr i)
+      by (inl e) (inl h) = inl (h ∙ e)
+      by (inr e) (inl h) = inr (inl (h ∙ e))
+
+pub lesser-one : (m : Mode) (a b : Bound) → (lesser m a b ≡ a) ⊎ (lesser m a b ≡ b)
+lesser-one m a b = either (wins m b a) (λ t. inr (rw t)) (λ t. inl (rw t))
+
+module _ (m : Mode) where
+  lesser-left : (a b : Bound) → NotAfter m (lesser m a b) a
+  lesser-left a b = either (wins m b a) (λ e. rw e (winner m b a e)) (λ e. rw e (itself m a))
+
+  lesser-right : (a b : Bound) → NotAfter m (lesser m a b) b
+  lesser-right a b = either (wins m b a) (λ e. rw e (itself m b)) (λ e. rw e (not-winner m a b e))
+
+  least-in : (b : Bound) (bs : List Bound) → In (fold (lesser m) b bs) (b ∷ bs)
+  least-in = fold-in (lesser m) (lesser-one m)
+
+  least-first : (b : Bound) (bs : List Bound) (x : Bound) → In x (b ∷ bs) → NotAfter m (fold (lesser m) b bs) x
+  unfolding fold
+  least-first b [] x (inl e) = rw e (itself m b)
+  least-first b [] x (inr i) = absurd i
+  least-first b (y ∷ ys) x (inl e) = rw e (after-trans m (fold (lesser m) (lesser m b y) ys) (lesser m b y) b (least-first (lesser m b y) ys (lesser m b y) (inl refl)) (lesser-left b y))
+  least-first b (y ∷ ys) x (inr (inl e)) = rw e (after-trans m (fold (lesser m) (lesser m b y) ys) (lesser m b y) y (least-first (lesser m b y) ys (lesser m b y) (inl refl)) (lesser-right b y))
+  least-first b (y ∷ ys) x (inr (inr i)) = least-first (lesser m b y) ys x (inr i)
+
+-- ---- where the exclusive one wins
+
+upper-covers : (v : ℤ) (a b : Bound) → NotAfter ExclusiveWins a b → meetsUpper v a ≡ true → meetsUpper v b ≡ true
+unfolding meetsUpper
+upper-covers v a b (inl l) h = lt-upto (strict b) v (b .value) (le-lt v (a .value) (b .value) (upto-le (strict a) v (a .value) h) l)
+upper-covers v a b (inr e) h = weaker (strict b) (strict a) v (b .value) (e .1) (rw (e .0) at h)
+
+-- The folded upper bound is met exactly if ALL upper bounds are, with no exception.
+pub upper-strict : (ups : List Bound) (v : ℤ) → within (least ExclusiveWins ups) v ≡ every (meetsUpper v) ups
+unfolding every
+upper-strict [] v = refl
+upper-strict (b ∷ bs) v = same (meetsUpper v m) (every (meetsUpper v) (b ∷ bs))
+    (λ h. at-every (meetsUpper v) (b ∷ bs) (λ x i. upper-covers v m x (least-first ExclusiveWins b bs x i) h))
+    (λ h. either (every (meetsUpper v) (b ∷ bs)) (λ t. clash (every-at (meetsUpper v) (b ∷ bs) m t (least-in ExclusiveWins b bs)) h) (λ t. t))
   where
-    pick : (t : Bool) → In (fold lesser (lesser b x) xs) (cond t x b ∷ xs) → In (fold lesser (lesser b x) xs) (b ∷ (x ∷ xs))
-    pick true (inl e) = inr (inl e)
-    pick true (inr i) = inr (inr i)
-    pick false (inl e) = inl e
-    pick false (inr i) = inr (inr i)
+    m : Bound
+    m = fold (lesser ExclusiveWins) b bs
 
-lesser-left : (a b : Bound) → NotAfter (lesser a b) a
-lesser-left a b = either (less b a) (λ e. rw e (is-less b a e)) (λ e. rw e (itself a))
-
-lesser-right : (a b : Bound) → NotAfter (lesser a b) b
-lesser-right a b = either (less b a) (λ e. rw e (itself b)) (λ e. rw e (not-less a b e))
-
-least-first : (b : Bound) (bs : List Bound) (x : Bound) → In x (b ∷ bs) → NotAfter (fold lesser b bs) x
-unfolding fold
-least-first b [] x (inl e) = rw e (itself b)
-least-first b [] x (inr i) = absurd i
-least-first b (y ∷ ys) x (inl e) = rw e (after-trans (fold lesser (lesser b y) ys) (lesser b y) b (least-first (lesser b y) ys (lesser b y) (inl refl)) (lesser-left b y))
-least-first b (y ∷ ys) x (inr (inl e)) = rw e (after-trans (fold lesser (lesser b y) ys) (lesser b y) y (least-first (lesser b y) ys (lesser b y) (inl refl)) (lesser-right b y))
-least-first b (y ∷ ys) x (inr (inr i)) = least-first (lesser b y) ys x (inr i)
+-- ---- where the inclusive one wins
 
 -- a bound that is met, and one not before it that is not met: both have the value v itself
 record Tie (v : ℤ) (a b : Bound) : Type 0 where
@@ -145,7 +196,7 @@ record Tie (v : ℤ) (a b : Bound) : Type 0 where
   includes : strict a ≡ false
   excludes : strict b ≡ true
 
-upper-tie : (v : ℤ) (a b : Bound) → NotAfter a b → meetsUpper v a ≡ true → meetsUpper v b ≡ false → Tie v a b
+upper-tie : (v : ℤ) (a b : Bound) → NotAfter InclusiveWins a b → meetsUpper v a ≡ true → meetsUpper v b ≡ false → Tie v a b
 unfolding meetsUpper
 upper-tie v a b (inl l) h g = clash (lt-upto (strict b) v (b .value) (le-lt v (a .value) (b .value) (upto-le (strict a) v (a .value) h) l)) g
 upper-tie v a b (inr e) h g = kinds (strict a) (strict b) refl refl (e .1) (rw (e .0) at h) g
@@ -173,14 +224,14 @@ module _ (ups : List Bound) (v : ℤ) where
   unfolding bothWays
   both-parts = simp reading Iff·rfl
 
-  both-made : (a b : Bound) → In a ups → In b ups → Tie v a b → ((x : Bound) → In x ups → NotAfter a x) → bothWays ups v ≡ true
+  both-made : (a b : Bound) → In a ups → In b ups → Tie v a b → ((x : Bound) → In x ups → NotAfter InclusiveWins a x) → bothWays ups v ≡ true
   both-made a b ia ib t first = both-parts .1 (
     at-every (λ x. not (ltZ (x .value) v)) ups (λ x i. under x (first x i)),
     at-some as-inclusive ups a (rw (t .left, lt-self v, t .includes)) ia,
     at-some as-exclusive ups b (rw (t .right, lt-self v, t .excludes)) ib,
   )
     where
-      under : (x : Bound) → NotAfter a x → not (ltZ (x .value) v) ≡ true
+      under : (x : Bound) → NotAfter InclusiveWins a x → not (ltZ (x .value) v) ≡ true
       under x (inl l) = not-yes (ltZ (x .value) v) (lt-not v (x .value) (rw (t .left) at l))
       under x (inr e) = rw (sym (e .0) ∙ t .left, lt-self v)
 
@@ -195,30 +246,36 @@ module _ (ups : List Bound) (v : ℤ) where
   both-low h b i = not-no (ltZ (b .value) v) (every-at (λ x. not (ltZ (x .value) v)) ups b (both-parts .0 h .0) i)
 
   -- so the least of all, which is not after it, is met
-  both-met : (m : Bound) → In m ups → ((x : Bound) → In x ups → NotAfter m x) → bothWays ups v ≡ true → meetsUpper v m ≡ true
+  both-met : (m : Bound) → In m ups → ((x : Bound) → In x ups → NotAfter InclusiveWins m x) → bothWays ups v ≡ true → meetsUpper v m ≡ true
   unfolding meetsUpper
   both-met m i first h = let w = both-has h in at (w .0) (w .2) (w .3) (first (w .0) (w .1))
     where
-      at : (a : Bound) → a .value ≡ v → strict a ≡ false → NotAfter m a → meetsUpper v m ≡ true
+      at : (a : Bound) → a .value ≡ v → strict a ≡ false → NotAfter InclusiveWins m a → meetsUpper v m ≡ true
       at a e x (inl l) = clash (rw e at l) (both-low h m i)
       at a e x (inr n) = either (strict m) (λ t. clash (n .1 t) x) (λ t. rw (t, n .0 ∙ e, lt-self v))
 
--- The folded upper bound is met exactly if every upper bound is, or v is the least upper value and given both ways.
-pub upper-all : (ups : List Bound) (v : ℤ) → within (least ups) v ≡ (every (meetsUpper v) ups || bothWays ups v)
+upper-tied : (ups : List Bound) (v : ℤ) → within (least InclusiveWins ups) v ≡ (every (meetsUpper v) ups || bothWays ups v)
 unfolding every
-upper-all [] v = refl
-upper-all (b ∷ bs) v = same (meetsUpper v m) (every (meetsUpper v) all || bothWays all v)
+upper-tied [] v = refl
+upper-tied (b ∷ bs) v = same (meetsUpper v m) (every (meetsUpper v) all || bothWays all v)
     (λ h. either (every (meetsUpper v) all) (λ t. rw t)
     (λ t. let w = fails-at (meetsUpper v) all t in
-    rw t (both-made all v m (w .0) (least-in b bs) (w .1) (upper-tie v m (w .0) (least-first b bs (w .0) (w .1)) h (w .2)) (least-first b bs))))
-    (λ h. either (every (meetsUpper v) all) (λ t. clash (every-at (meetsUpper v) all m t (least-in b bs)) h)
-    (λ t. either (bothWays all v) (λ u. clash (both-met all v m (least-in b bs) (least-first b bs) u) h) (λ u. rw (t, u))))
+    rw t (both-made all v m (w .0) (least-in InclusiveWins b bs) (w .1) (upper-tie v m (w .0) (least-first InclusiveWins b bs (w .0) (w .1)) h (w .2)) (least-first InclusiveWins b bs))))
+    (λ h. either (every (meetsUpper v) all) (λ t. clash (every-at (meetsUpper v) all m t (least-in InclusiveWins b bs)) h)
+    (λ t. either (bothWays all v) (λ u. clash (both-met all v m (least-in InclusiveWins b bs) (least-first InclusiveWins b bs) u) h) (λ u. rw (t, u))))
   where
     m : Bound
-    m = fold lesser b bs
+    m = fold (lesser InclusiveWins) b bs
 
     all : List Bound
     all = b ∷ bs
+
+-- ---- both modes
+
+-- The folded upper bound is met exactly if every upper bound is, or, where the inclusive one wins, v is the least upper value and given both ways.
+pub upper-all : (mode : Mode) (ups : List Bound) (v : ℤ) → within (least mode ups) v ≡ (every (meetsUpper v) ups || spared mode ups v)
+upper-all InclusiveWins ups v = upper-tied ups v
+upper-all ExclusiveWins ups v = upper-strict ups v ∙ sym (or-false (every (meetsUpper v) ups))
 
 not-both : (ups : List Bound) (v : ℤ) → tied ups ≡ false → bothWays ups v ≡ false
 unfolding tied
@@ -226,9 +283,10 @@ not-both ups v h = either (bothWays ups v)
     (λ t. let w = both-has ups v t in clash (at-some (λ b. bothWays ups (b .value)) ups (w .0) (rw (w .2) t) (w .1)) h)
     (λ t. t)
 
--- So it is met exactly if every upper bound is, where no least upper value is given both ways.
-pub upper-untied : (ups : List Bound) (v : ℤ) → tied ups ≡ false → within (least ups) v ≡ every (meetsUpper v) ups
-upper-untied ups v h = upper-all ups v ∙ ap (λ t. every (meetsUpper v) ups || t) (not-both ups v h) ∙ or-false (every (meetsUpper v) ups)
+-- So it is met exactly if every upper bound is, where no least upper value is given both ways or the exclusive one wins.
+pub upper-untied : (mode : Mode) (ups : List Bound) (v : ℤ) → tiedIn mode ups ≡ false → within (least mode ups) v ≡ every (meetsUpper v) ups
+upper-untied InclusiveWins ups v h = upper-tied ups v ∙ ap (λ t. every (meetsUpper v) ups || t) (not-both ups v h) ∙ or-false (every (meetsUpper v) ups)
+upper-untied ExclusiveWins ups v h = upper-strict ups v
 
 -- ---- folded in two parts: the constants first, then with the variables
 

@@ -21,13 +21,14 @@ use Rattle.meaning.specs.Refusals.{Said, Gives}
 use Rattle.meaning.specs.Sequence.{Sequence, Source, elementsIn}
 use Rattle.meaning.proofs.Judging.{none-given}
 use Rattle.bounds.specs.declared.Bound.{Bound}
+use Rattle.bounds.specs.declared.Mode.{Mode}
 use Rattle.filter_interval.specs.declared.Filter.{Filter}
 use Rattle.loftsplice.specs.declared.scan.Move.{Move}
 use Rattle.loftsplice.specs.Scan.{fresh}
 use Rattle.filter_interval.specs.Filter.{Call, callOf, newFilter, answersOf}
 use Rattle.loftsplice.specs.Listing.{those}
 use Rattle.theorems.specs.Exact.{accepted}
-use Rattle.theorems.specs.Demand3.{answers, moves, allLower, allUpper, meetsAll, tied, answerAt, counts, expectedFrom, expected}
+use Rattle.theorems.specs.Demand3.{answers, moves, allLower, allUpper, meetsAll, tiedIn, answerAt, counts, expectedFrom, expected}
 use Rattle.theorems.specs.Runs.{letThrough, noneStays, isNext, suchElements, listing, walk, kept, only}
 use Rattle.theorems.proofs.FilterCalls.{call-keeps}
 use Rattle.theorems.proofs.Expected.{is-next, stays-none, nexts-list, walks}
@@ -35,7 +36,7 @@ use Rattle.theorems.proofs.Folded.{by-folded, through, untied}
 
 -- A column p, a window start..end, the constant bounds of a new filter, a first call k and calls ks after it: each is a next or a seek with any target,
 -- and has variable bounds and inputs of its own. That the window rises is no premise: no call is accepted otherwise (`accepted-exactly-if`).
-module _ (p : Source) (start end : ℕ) (lows ups : List Bound) (k : Call) (ks : List Call) where
+module _ (p : Source) (start end : ℕ) (mode : Mode) (lows ups : List Bound) (k : Call) (ks : List Call) where
   -- next or seek, of each call, as it counts
   abbrev asked : List Move
   asked = counts (allLower lows k) (k .move) ∷ moves ks
@@ -48,32 +49,32 @@ module _ (p : Source) (start end : ℕ) (lows ups : List Bound) (k : Call) (ks :
   such = suchElements (p .sequence) start end lows ups k
 
   -- The answers with a tie or without one: all that differs is what is let through.
-  pub answers-at-any-bounds : every accepted (answers p start end lows ups k ks) ≡ true
-      → answers p start end lows ups k ks ≡ expectedFrom (p .sequence) end (letThrough (allLower lows k) (allUpper ups k)) start start asked
-  answers-at-any-bounds acc = by-folded p start end lows ups k ks acc ∙ ap from-start (through (allLower lows k) (allUpper ups k))
+  pub answers-at-any-bounds : every accepted (answers p start end mode lows ups k ks) ≡ true
+      → answers p start end mode lows ups k ks ≡ expectedFrom (p .sequence) end (letThrough mode (allLower lows k) (allUpper ups k)) start start asked
+  answers-at-any-bounds acc = by-folded p start end mode lows ups k ks acc ∙ ap from-start (through mode (allLower lows k) (allUpper ups k))
 
   -- THE THEOREM
-  pub answers-are-expected : every accepted (answers p start end lows ups k ks) ≡ true → tied (allUpper ups k) ≡ false
-      → answers p start end lows ups k ks ≡ expected (p .sequence) start end lows ups k ks
+  pub answers-are-expected : every accepted (answers p start end mode lows ups k ks) ≡ true → tiedIn mode (allUpper ups k) ≡ false
+      → answers p start end mode lows ups k ks ≡ expected (p .sequence) start end lows ups k ks
   unfolding expected
-  answers-are-expected acc t = answers-at-any-bounds acc ∙ ap from-start (untied (allLower lows k) (allUpper ups k) t)
+  answers-are-expected acc t = answers-at-any-bounds acc ∙ ap from-start (untied mode (allLower lows k) (allUpper ups k) t)
 
   -- The same without an index: the answers are a walk through the list of such elements.
-  pub answers-walk : every accepted (answers p start end lows ups k ks) ≡ true → tied (allUpper ups k) ≡ false
-      → answers p start end lows ups k ks ≡ walk such such asked
+  pub answers-walk : every accepted (answers p start end mode lows ups k ks) ≡ true → tiedIn mode (allUpper ups k) ≡ false
+      → answers p start end mode lows ups k ks ≡ walk such such asked
   unfolding expected
   answers-walk acc t = answers-are-expected acc t ∙ walks (p .sequence) end (meetsAll (allLower lows k) (allUpper ups k)) start start asked
 
   -- "From then on all answer none."
-  pub none-stays : every accepted (answers p start end lows ups k ks) ≡ true → noneStays (answers p start end lows ups k ks) ≡ true
-  none-stays acc = rw (answers-at-any-bounds acc) (stays-none (p .sequence) end (letThrough (allLower lows k) (allUpper ups k)) start start asked)
+  pub none-stays : every accepted (answers p start end mode lows ups k ks) ≡ true → noneStays (answers p start end mode lows ups k ks) ≡ true
+  none-stays acc = rw (answers-at-any-bounds acc) (stays-none (p .sequence) end (letThrough mode (allLower lows k) (allUpper ups k)) start start asked)
 
   -- Next alone, with a tie or without one: it lists what is let through.
-  pub next-alone-lists-at-any-bounds : every accepted (answers p start end lows ups k ks) ≡ true → every isNext (moves (k ∷ ks)) ≡ true
-      → answers p start end lows ups k ks ≡ listing (length (k ∷ ks)) (those (letThrough (allLower lows k) (allUpper ups k)) (elementsIn (p .sequence) start end))
+  pub next-alone-lists-at-any-bounds : every accepted (answers p start end mode lows ups k ks) ≡ true → every isNext (moves (k ∷ ks)) ≡ true
+      → answers p start end mode lows ups k ks ≡ listing (length (k ∷ ks)) (those (letThrough mode (allLower lows k) (allUpper ups k)) (elementsIn (p .sequence) start end))
   unfolding every
   next-alone-lists-at-any-bounds acc h =
-      let meets = letThrough (allLower lows k) (allUpper ups k) in
+      let meets = letThrough mode (allLower lows k) (allUpper ups k) in
       answers-at-any-bounds acc
       ∙ ap (λ (m : Move). expectedFrom (p .sequence) end meets start start (m ∷ moves ks)) (still (allLower lows k))
       ∙ nexts-list (p .sequence) end meets start start (moves (k ∷ ks)) h
@@ -84,11 +85,11 @@ module _ (p : Source) (start end : ℕ) (lows ups : List Bound) (k : Call) (ks :
       still (b ∷ bs) = refl
 
   -- "Next alone lists every such element once, in order."
-  pub next-alone-lists : every accepted (answers p start end lows ups k ks) ≡ true → tied (allUpper ups k) ≡ false → every isNext (moves (k ∷ ks)) ≡ true
-      → answers p start end lows ups k ks ≡ listing (length (k ∷ ks)) such
+  pub next-alone-lists : every accepted (answers p start end mode lows ups k ks) ≡ true → tiedIn mode (allUpper ups k) ≡ false → every isNext (moves (k ∷ ks)) ≡ true
+      → answers p start end mode lows ups k ks ≡ listing (length (k ∷ ks)) such
   next-alone-lists acc t h =
       next-alone-lists-at-any-bounds acc h
-      ∙ ap (λ (meets : ℤ → Bool). listing (length (k ∷ ks)) (those meets (elementsIn (p .sequence) start end))) (untied (allLower lows k) (allUpper ups k) t)
+      ∙ ap (λ (meets : ℤ → Bool). listing (length (k ∷ ks)) (those meets (elementsIn (p .sequence) start end))) (untied mode (allLower lows k) (allUpper ups k) t)
 
 -- "none exactly if there is no such element": of each index that `earliest` is made of, whatever is looked for
 pub none-exactly-if : (q : Sequence) (wanted : ℕ → Bool) (a end : ℕ)
@@ -121,11 +122,11 @@ module _ (p : Source) where
 
 -- DEMAND 3 OF ANY CALLS. Let k be the first call of a run that is accepted, and ks those that are accepted after it.
 pub accepted-answers-are-expected :
-    (p : Source) (start end : ℕ) (lows ups : List Bound) (calls : List Call) (k : Call) (ks : List Call)
-    → kept p (newFilter (fresh start end) lows ups) calls ≡ (k ∷ ks)
-    → tied (allUpper ups k) ≡ false
-    → only (answersOf p (newFilter (fresh start end) lows ups) calls) ≡ expected (p .sequence) start end lows ups k ks
-accepted-answers-are-expected p start end lows ups calls k ks h t =
-    let f = newFilter (fresh start end) lows ups in
+    (p : Source) (start end : ℕ) (mode : Mode) (lows ups : List Bound) (calls : List Call) (k : Call) (ks : List Call)
+    → kept p (newFilter (fresh start end) mode lows ups) calls ≡ (k ∷ ks)
+    → tiedIn mode (allUpper ups k) ≡ false
+    → only (answersOf p (newFilter (fresh start end) mode lows ups) calls) ≡ expected (p .sequence) start end lows ups k ks
+accepted-answers-are-expected p start end mode lows ups calls k ks h t =
+    let f = newFilter (fresh start end) mode lows ups in
     only-kept p calls f ∙ ap (answersOf p f) h
-    ∙ answers-are-expected p start end lows ups k ks (ap (λ (cs : List Call). every accepted (answersOf p f cs)) (sym h) ∙ kept-accepted p calls f) t
+    ∙ answers-are-expected p start end mode lows ups k ks (ap (λ (cs : List Call). every accepted (answersOf p f cs)) (sym h) ∙ kept-accepted p calls f) t

@@ -18,6 +18,7 @@ use Rattle.loftsplice.specs.declared.scan.State.{State}
 use Rattle.loftsplice.specs.declared.scan.State.the-variants.{Fresh, At, Ended}
 use Rattle.loftsplice.specs.declared.scan.Scan.{Scan}
 use Rattle.bounds.specs.declared.Bounds.{Bounds}
+use Rattle.bounds.specs.declared.Mode.{Mode}
 use Rattle.filter_interval.specs.declared.Filter.{Filter}
 use Rattle.loftsplice.specs.Scan.{Outcome, fresh, put, nextFrom, seekFrom, elementIn, indexIn, badScan, newOf, nextOf, seekOf, narrowOf, resetOf, currentOf, posOf}
 use Rattle.loftsplice.proofs.ScanCases.{index-below, put-same}
@@ -190,8 +191,8 @@ module _ (p : Source) (s : Scan) where
 pub filter-reset-keeps : (f : Filter) → filterResetOf f .scan ≡ f .scan
 filter-reset-keeps f = refl
 
-pub filter-reset-returns : (s : Scan) (lows ups : Bounds) (f : Filter) → fitOf s lows ups ≡ Gives f → filterResetOf f ≡ f
-filter-reset-returns s lows ups f h =
-    let z : Gives (newFilter s (bounds lows) (bounds ups)) ≡ Gives f = sym (fit-does s lows ups (ap accepted h)) ∙ h in
-    let is : newFilter s (bounds lows) (bounds ups) ≡ f = cc in
+pub filter-reset-returns : (s : Scan) (mode : Mode) (lows ups : Bounds) (f : Filter) → fitOf s mode lows ups ≡ Gives f → filterResetOf f ≡ f
+filter-reset-returns s mode lows ups f h =
+    let z : Gives (newFilter s mode (bounds lows) (bounds ups)) ≡ Gives f = sym (fit-does s mode lows ups (ap accepted h)) ∙ h in
+    let is : newFilter s mode (bounds lows) (bounds ups) ≡ f = cc in
     rw (sym is)

@@ -23,12 +23,13 @@ use Rattle.meaning.specs.Refusals.{Said, Gives}
 use Rattle.meaning.specs.Sequence.{Sequence, Source, rises}
 use Rattle.meaning.proofs.Judging.{none-given}
 use Rattle.bounds.specs.declared.Bound.{Bound}
+use Rattle.bounds.specs.declared.Mode.{Mode}
 use Rattle.loftsplice.specs.declared.scan.Move.the-variants.{Next, Seek}
 use Rattle.loftsplice.specs.declared.scan.Move.{Move}
 use Rattle.loftsplice.specs.Scan.{fresh}
 use Rattle.filter_interval.specs.Filter.{Call, newFilter}
 use Rattle.theorems.specs.Exact.{accepted}
-use Rattle.theorems.specs.Demand3.{answers, moves, allLower, allUpper, meetsAll, tied, earliest, answerAt, counts, expectedFrom, expected}
+use Rattle.theorems.specs.Demand3.{answers, moves, allLower, allUpper, meetsAll, tiedIn, earliest, answerAt, counts, expectedFrom, expected}
 use Rattle.theorems.specs.Answered.{wanted, since, NoSuch, Earliest}
 use Rattle.theorems.proofs.Windows.{climbs}
 use Rattle.theorems.proofs.Folded.{run-rises}
@@ -142,15 +143,16 @@ module _ (q : Sequence) (s e : ℕ) (rise : rises q s e ≡ true) (ok : ℤ → 
 
 -- ---- the run itself
 
--- A run as in `answers-are-expected`: a new filter on a fresh scan, a first call k and calls ks after it, all accepted; no least upper value is given both ways.
-module _ (p : Source) (start end : ℕ) (lows ups : List Bound) (k : Call) (ks : List Call)
-    (all-accepted : every accepted (answers p start end lows ups k ks) ≡ true) (no-tie : tied (allUpper ups k) ≡ false) where
+-- A run as in `answers-are-expected`: a new filter on a fresh scan, a first call k and calls ks after it, all accepted; no least upper value is given both
+-- ways where the inclusive one would win.
+module _ (p : Source) (start end : ℕ) (mode : Mode) (lows ups : List Bound) (k : Call) (ks : List Call)
+    (all-accepted : every accepted (answers p start end mode lows ups k ks) ≡ true) (no-tie : tiedIn mode (allUpper ups k) ≡ false) where
   abbrev q : Sequence
   q = p .sequence
 
   -- its j-th answer, and its j-th call as it counts
   abbrev answer : ℕ → Said (Option ℤ)
-  answer j = getD (answers p start end lows ups k ks) j (Gives none)
+  answer j = getD (answers p start end mode lows ups k ks) j (Gives none)
 
   abbrev asked : ℕ → Move
   asked j = getD (counts (allLower lows k) (k .move) ∷ moves ks) j Next
@@ -162,12 +164,12 @@ module _ (p : Source) (start end : ℕ) (lows ups : List Bound) (k : Call) (ks :
   abbrev such-later : ℕ → ℤ → Bool
   such-later j x = wanted (meetsAll (allLower lows k) (allUpper ups k)) (asked (suc j)) x && since (answer j) (asked (suc j)) x
 
-  run-is : answers p start end lows ups k ks ≡ expectedFrom q end (meetsAll (allLower lows k) (allUpper ups k)) start start (counts (allLower lows k) (k .move) ∷ moves ks)
+  run-is : answers p start end mode lows ups k ks ≡ expectedFrom q end (meetsAll (allLower lows k) (allUpper ups k)) start start (counts (allLower lows k) (k .move) ∷ moves ks)
   unfolding expected
-  run-is = answers-are-expected p start end lows ups k ks all-accepted no-tie
+  run-is = answers-are-expected p start end mode lows ups k ks all-accepted no-tie
 
   rising : rises q start end ≡ true
-  rising = run-rises p k ks (newFilter (fresh start end) lows ups) all-accepted
+  rising = run-rises p k ks (newFilter (fresh start end) mode lows ups) all-accepted
 
   first-is-at : answer 0 ≡ answerAt q end (firstFrom (λ i. such-first (q .at i)) start end)
   first-is-at = ap (λ xs. getD xs 0 (Gives none)) run-is ∙ first q start end rising (meetsAll (allLower lows k) (allUpper ups k)) (asked 0) (moves ks)

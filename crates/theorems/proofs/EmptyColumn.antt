@@ -23,6 +23,7 @@ use Rattle.loftsplice.specs.declared.scan.State.{State}
 use Rattle.loftsplice.specs.declared.scan.State.the-variants.{Fresh, At, Ended}
 use Rattle.loftsplice.specs.declared.scan.Scan.{Scan}
 use Rattle.bounds.specs.declared.Bounds.{Bounds}
+use Rattle.bounds.specs.declared.Mode.{Mode}
 use Rattle.bounds.specs.declared.Limit.{Limit}
 use Rattle.bounds.specs.declared.Limit.the-variants.{Free, To}
 use Rattle.filter_interval.specs.declared.FilterState.{FilterState}
@@ -218,17 +219,17 @@ all-rise [] = refl
 all-rise (w ∷ ws) = rw (short-rises (nowhere .sequence) w 0 (omega arith)) (all-rise ws)
 
 -- windows ss: their starts; up to 256 and 16 bounds a list, and a place for each count. The sum is 0, and the output may have no place.
-pub empty-listing : (ss : List ℕ) (lows ups : Bounds) (out : List ℤ) (counts : List ℕ) → lows .count ≤ 16 → ups .count ≤ 16 → length ss ≤ 256 → length ss ≤ length counts
-    → listOf (record { source = nowhere; starts = ss; ends = zeros ss; lower = lows; upper = ups; out = out; counts = counts }) ≡ Gives 0
+pub empty-listing : (ss : List ℕ) (mode : Mode) (lows ups : Bounds) (out : List ℤ) (counts : List ℕ) → lows .count ≤ 16 → ups .count ≤ 16 → length ss ≤ 256 → length ss ≤ length counts
+    → listOf (record { source = nowhere; starts = ss; ends = zeros ss; mode = mode; lower = lows; upper = ups; out = out; counts = counts }) ≡ Gives 0
 unfolding listOf tried shapeOk endsOk reachOk allFor
-empty-listing ss lows ups out counts l u n room = rw (
+empty-listing ss mode lows ups out counts l u n room = rw (
   le-ltb 16 (lows .count) l,
   le-ltb 16 (ups .count) u,
   le-ltb 256 (length ss) n,
   eq-eqb (length ss) (length (zeros ss)) (sym (length-map ss (λ (s : ℕ). zero))),
   all-inside ss,
   all-rise ss,
-  empty-values (greatest (bounds lows)) (least (bounds ups)) ss,
+  empty-values (greatest (bounds lows)) (least mode (bounds ups)) ss,
   le-ltb (length out) 0 (omega arith),
   le-ltb (length counts) (length ss) room,
 )

@@ -18,6 +18,7 @@ use Rattle.loftsplice.specs.Lead.{onLead}
 use Rattle.loftsplice.specs.declared.scan.Scan.{Scan}
 use Rattle.bounds.specs.declared.Limit.{Limit}
 use Rattle.bounds.specs.declared.Bounds.{Bounds}
+use Rattle.bounds.specs.declared.Mode.{Mode}
 use Rattle.filter_interval.specs.declared.FilterState.{FilterState}
 use Rattle.filter_interval.specs.declared.FilterState.the-variants.{Before, Within, After}
 use Rattle.filter_interval.specs.declared.Filter.{Filter}
@@ -31,20 +32,20 @@ use Rattle.theorems.proofs.ScanCalls.{valueTest, value-refuses-6, value
 -- ---- making a filter
 
 -- "Making a filter applies 8 alone"
-module _ (s : Scan) (lows ups : Bounds) where
+module _ (s : Scan) (mode : Mode) (lows ups : Bounds) where
   abbrev fitTests : Refusal → Bool
   fitTests = also OverBounds (ltb 16 (lows .count) || ltb 16 (ups .count)) nothing
 
   -- "over 16 bounds in a list"
-  pub fit-refuses-8 : (fitOf s lows ups ≡ Number 8) ↔ ((16 < lows .count) ⊎ (16 < ups .count))
+  pub fit-refuses-8 : (fitOf s mode lows ups ≡ Number 8) ↔ ((16 < lows .count) ⊎ (16 < ups .count))
   unfolding fitOf someOf earlier
   fit-refuses-8 = Iff·trans (exact (plainly _) fitTests OverBounds refl) (simp (either-below, reading) Iff·rfl)
 
-  pub fit-accepts : (accepted (fitOf s lows ups) ≡ true) ↔ ((lows .count ≤ 16) × (ups .count ≤ 16))
+  pub fit-accepts : (accepted (fitOf s mode lows ups) ≡ true) ↔ ((lows .count ≤ 16) × (ups .count ≤ 16))
   unfolding fitOf
   fit-accepts = Iff·trans (accepted-exactly (plainly _) fitTests) (simp reading Iff·rfl)
 
-  pub fit-does : accepted (fitOf s lows ups) ≡ true → fitOf s lows ups ≡ Gives (newFilter s (bounds lows) (bounds ups))
+  pub fit-does : accepted (fitOf s mode lows ups) ≡ true → fitOf s mode lows ups ≡ Gives (newFilter s mode (bounds lows) (bounds ups))
   unfolding fitOf
   fit-does = accepted-is (plainly _) fitTests
 

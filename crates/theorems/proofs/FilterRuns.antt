@@ -26,6 +26,7 @@ use Rattle.loftsplice.specs.declared.scan.Scan.{Scan}
 use Rattle.bounds.specs.declared.BoundaryType.{BoundaryType}
 use Rattle.bounds.specs.declared.BoundaryType.the-variants.{Inclusive, Exclusive}
 use Rattle.bounds.specs.declared.Bound.{Bound}
+use Rattle.bounds.specs.declared.Mode.{Mode}
 use Rattle.bounds.specs.declared.Limit.{Limit}
 use Rattle.bounds.specs.declared.Limit.the-variants.{Free, To}
 use Rattle.filter_interval.specs.declared.FilterState.{FilterState}
@@ -49,12 +50,12 @@ steps q f (k ∷ ks) = stepFrom q k f (f .state) .said ∷ steps q (stepFrom q k
 abbrev pub on : Sequence → Sifting → List Call → List (Said (Option ℤ))
 on q m ks = m .said ∷ steps q (m .filter) ks
 
-abbrev filterOf : Sequence → ℕ → ℕ → Limit → Limit → State → FilterState → Filter
-filterOf q s e l u t w = record { scan = put q (fresh s e) t; lower = l; upper = u; state = w }
+abbrev filterOf : Sequence → ℕ → ℕ → Mode → Limit → Limit → State → FilterState → Filter
+filterOf q s e mode l u t w = record { scan = put q (fresh s e) t; mode = mode; lower = l; upper = u; state = w }
 
 -- a first call that reads the bounds low and up
-abbrev pub begins : Sequence → ℕ → ℕ → Limit → Limit → Limit → Limit → Move → Sifting
-begins q s e l u up low m = settle (filterOf q s e l u Fresh Before) up (leadFrom q (leadTo (raised m low)) (fresh s e))
+abbrev pub begins : Sequence → ℕ → ℕ → Mode → Limit → Limit → Limit → Limit → Move → Sifting
+begins q s e mode l u up low m = settle (filterOf q s e mode l u Fresh Before) up (leadFrom q (leadTo (raised m low)) (fresh s e))
 
 -- the two folded bounds
 abbrev pub both : Limit → Limit → ℤ → Bool
@@ -65,10 +66,10 @@ abbrev From : Sequence → ℕ → (ℤ → Bool) → ℕ → List Call → List
 From q e ok r ks = answerAt q e r ∷ expectedFrom q e ok (suc r) r (moves ks)
 
 -- After stays After
-after-run : (q : Sequence) (s : Scan) (l u : Limit) (ks : List Call) → steps q (record { scan = s; lower = l; upper = u; state = After }) ks ≡ nones (moves ks)
+after-run : (q : Sequence) (s : Scan) (mode : Mode) (l u : Limit) (ks : List Call) → steps q (record { scan = s; mode = mode; lower = l; upper = u; state = After }) ks ≡ nones (moves ks)
 unfolding steps stepFrom
-after-run q s l u [] = refl
-after-run q s l u (k ∷ ks) = same-after (Gives none) (after-run q s l u ks)
+after-run q s mode l u [] = refl
+after-run q s mode l u (k ∷ ks) = same-after (Gives none) (after-run q s mode l u ks)
 
 module _ (q : Sequence) (s e : ℕ) (rise : rises q s e ≡ true) where
   -- ---- a scan that lands at the first index that passes p, and is then within the upper bound or not
@@ -91,31 +92,31 @@ module _ (q : Sequence) (s e : ℕ) (rise : rises q s e ≡ true) where
             either (within up (q .at k)) (λ h. clash (within-back q s e rise up j k l g v h) (w n)) (λ h. h)
 
     -- the call's answer and those of the calls after it
-    module _ (ok : ℤ → Bool) (l u : Limit) (t : State) (w : FilterState) (ks : List Call) where
+    module _ (ok : ℤ → Bool) (mode : Mode) (l u : Limit) (t : State) (w : FilterState) (ks : List Call) where
       abbrev step : Sifting
-      step = settle (filterOf q s e l u t w) up (goTo q (put q (fresh s e) t) j)
+      step = settle (filterOf q s e mode l u t w) up (goTo q (put q (fresh s e) t) j)
 
-      settle-in : ltb j e ≡ true → within up (q .at j) ≡ true → step ≡ record { filter = filterOf q s e l u (At j) (Within up); said = Gives (some (q .at j)) }
+      settle-in : ltb j e ≡ true → within up (q .at j) ≡ true → step ≡ record { filter = filterOf q s e mode l u (At j) (Within up); said = Gives (some (q .at j)) }
       unfolding settle goTo
       settle-in b c = rw (b, c)
 
-      settle-out : ltb j e ≡ true → within up (q .at j) ≡ false → step ≡ record { filter = filterOf q s e l u (At j) After; said = Gives none }
+      settle-out : ltb j e ≡ true → within up (q .at j) ≡ false → step ≡ record { filter = filterOf q s e mode l u (At j) After; said = Gives none }
       unfolding settle goTo
       settle-out b c = rw (b, c)
 
-      settle-end : ltb j e ≡ false → step ≡ record { filter = filterOf q s e l u Ended After; said = Gives none }
+      settle-end : ltb j e ≡ false → step ≡ record { filter = filterOf q s e mode l u Ended After; said = Gives none }
       unfolding settle goTo
       settle-end b = rw b
 
       -- the last answer is none
-      stops : (t : State) → step ≡ record { filter = filterOf q s e l u t After; said = Gives none }
+      stops : (t : State) → step ≡ record { filter = filterOf q s e mode l u t After; said = Gives none }
           → (r : ℕ) → e ≤ r → on q step ks ≡ From q e ok r ks
       unfolding answerAt
       stops t m r n =
           rw (m, le-ltb r e n)
-          (same-after (Gives none) (after-run q (put q (fresh s e) t) l u ks ∙ sym (over-run q e ok (suc r) r (moves ks) (omega arith) n)))
+          (same-after (Gives none) (after-run q (put q (fresh s e) t) mode l u ks ∙ sym (over-run q e ok (suc r) r (moves ks) (omega arith) n)))
 
-      landed : (j < e → p (q .at j) ≡ true → steps q (filterOf q s e l u (At j) (Within up)) ks ≡ expectedFrom q e ok (suc j) j (moves ks))
+      landed : (j < e → p (q .at j) ≡ true → steps q (filterOf q s e mode l u (At j) (Within up)) ks ≡ expectedFrom q e ok (suc j) j (moves ks))
           → (r : ℕ) → r ≡ firstFrom (λ i. p (q .at i) && within up (q .at i)) a e
           → on q step ks ≡ From q e ok r ks
       unfolding answerAt
@@ -129,21 +130,21 @@ module _ (q : Sequence) (s e : ℕ) (rise : rises q s e ≡ true) where
 
   -- ---- calls of a filter that is Within: all elements from the last one given on meet the lower bound
 
-  module _ (low up l u : Limit) where
+  module _ (low up : Limit) (mode : Mode) (l u : Limit) where
     abbrev Known : List Call → Type 0
-    Known ks = (j : ℕ) → s ≤ j → j < e → above low (q .at j) ≡ true → steps q (filterOf q s e l u (At j) (Within up)) ks ≡ expectedFrom q e (both low up) (suc j) j (moves ks)
+    Known ks = (j : ℕ) → s ≤ j → j < e → above low (q .at j) ≡ true → steps q (filterOf q s e mode l u (At j) (Within up)) ks ≡ expectedFrom q e (both low up) (suc j) j (moves ks)
 
     swapped : (x : ℤ) (a : ℕ) → firstFrom (λ i. both low up (q .at i) && not (ltZ (q .at i) x)) a e
         ≡ firstFrom (λ i. (above low (q .at i) && not (ltZ (q .at i) x)) && within up (q .at i)) a e
     swapped x a = ap (λ (p : ℕ → Bool). firstFrom p a e) (fun-ext (λ (i : ℕ). and-swap (above low (q .at i)) (within up (q .at i)) (not (ltZ (q .at i) x))))
 
     by-move : (i : ℕ) → s ≤ i → i < e → above low (q .at i) ≡ true → (ks : List Call) → Known ks → (m : Move)
-        → on q (settle (filterOf q s e l u (At i) (Within up)) up (moveScan q m (put q (fresh s e) (At i)))) ks ≡ From q e (both low up) (earliest q e (both low up) (suc i) i m) ks
+        → on q (settle (filterOf q s e mode l u (At i) (Within up)) up (moveScan q m (put q (fresh s e) (At i)))) ks ≡ From q e (both low up) (earliest q e (both low up) (suc i) i m) ks
     unfolding nextFrom seekFrom earliest
     by-move i a b h ks ih Next =
         landed up (above low) (suc i) (suc i) (omega arith)
         (record { from = le-refl (suc i); before = λ k x y. absurd (omega arith); holds = λ g. above-on q s e rise low i (suc i) a (omega arith) g h })
-        (both low up) l u (At i) (Within up) ks (λ g o. ih (suc i) (omega arith) g o) (firstFrom (λ k. both low up (q .at k)) (suc i) e) refl
+        (both low up) mode l u (At i) (Within up) ks (λ g o. ih (suc i) (omega arith) g o) (firstFrom (λ k. both low up (q .at k)) (suc i) e) refl
     by-move i a b h ks ih (Seek x) =
         let j : ℕ = firstNotBelow q x i e in
         let g : First (λ k. not (ltZ (q .at k) x)) i e j = first-known (λ k. not (ltZ (q .at k) x)) i e in
@@ -153,7 +154,7 @@ module _ (q : Sequence) (s e : ℕ) (rise : rises q s e ≡ true) where
           before = λ k y z. and-false (above low (q .at k)) (not (ltZ (q .at k) x)) (g .before k y z);
           holds = λ n. and-both (above low (q .at j)) (not (ltZ (q .at j) x)) (above-on q s e rise low i j a (g .from) n h) (g .holds n);
         })
-        (both low up) l u (At i) (Within up) ks
+        (both low up) mode l u (At i) (Within up) ks
         (λ n o. ih j (omega (arith, g .from)) n (and-left (above low (q .at j)) (not (ltZ (q .at j) x)) o))
         (firstFrom (λ k. both low up (q .at k) && not (ltZ (q .at k) x)) i e) (swapped x i)
 
@@ -217,28 +218,28 @@ module _ (q : Sequence) (s e : ℕ) (rise : rises q s e ≡ true) where
   raised-free Next = refl
   raised-free (Seek x) = refl
 
-  module _ (up l u : Limit) (ks : List Call) where
+  module _ (up : Limit) (mode : Mode) (l u : Limit) (ks : List Call) where
     -- with no lower bound
-    pub first-open : (m : Move) → on q (begins q s e l u up Free m) ks ≡ From q e (both Free up) (earliest q e (both Free up) s s Next) ks
+    pub first-open : (m : Move) → on q (begins q s e mode l u up Free m) ks ≡ From q e (both Free up) (earliest q e (both Free up) s s Next) ks
     unfolding leadFrom nextFrom earliest
     first-open m =
         rw (raised-free m)
-        (landed up (above Free) s s (le-refl s) (record { from = le-refl s; before = λ k x y. absurd (omega arith); holds = λ g. refl }) (both Free up) l u Fresh Before ks
-        (λ g o. within-run Free up l u ks s (le-refl s) g o) (firstFrom (λ i. both Free up (q .at i)) s e) refl)
+        (landed up (above Free) s s (le-refl s) (record { from = le-refl s; before = λ k x y. absurd (omega arith); holds = λ g. refl }) (both Free up) mode l u Fresh Before ks
+        (λ g o. within-run Free up mode l u ks s (le-refl s) g o) (firstFrom (λ i. both Free up (q .at i)) s e) refl)
 
     -- with one
-    pub first-low : (b : Bound) (m : Move) → on q (begins q s e l u up (To b) m) ks ≡ From q e (both (To b) up) (earliest q e (both (To b) up) s s m) ks
+    pub first-low : (b : Bound) (m : Move) → on q (begins q s e mode l u up (To b) m) ks ≡ From q e (both (To b) up) (earliest q e (both (To b) up) s s m) ks
     unfolding earliest
     first-low b Next =
         let j : ℕ = firstFrom (λ i. meetsLower (q .at i) b) s e in
         let g : First (λ i. meetsLower (q .at i) b) s e j = first-known (λ i. meetsLower (q .at i) b) s e in
-        rw (arrive-at (b .boundary) (b .value)) (landed up (above (To b)) s j (le-refl s) g (both (To b) up) l u Fresh Before ks
-        (λ n o. within-run (To b) up l u ks j (g .from) n o) (firstFrom (λ i. both (To b) up (q .at i)) s e) refl)
+        rw (arrive-at (b .boundary) (b .value)) (landed up (above (To b)) s j (le-refl s) g (both (To b) up) mode l u Fresh Before ks
+        (λ n o. within-run (To b) up mode l u ks j (g .from) n o) (firstFrom (λ i. both (To b) up (q .at i)) s e) refl)
     first-low b (Seek x) =
         let j : ℕ = firstFrom (λ i. meetsLower (q .at i) b && not (ltZ (q .at i) x)) s e in
         let g : First (λ i. meetsLower (q .at i) b && not (ltZ (q .at i) x)) s e j = first-known (λ i. meetsLower (q .at i) b && not (ltZ (q .at i) x)) s e in
         let y : leadFrom q (leadTo (To (greater b (inclusive x)))) (fresh s e) ≡ goTo q (fresh s e) j
         = arrive-at (greater b (inclusive x) .boundary) (greater b (inclusive x) .value) ∙ ap (λ (i : ℕ). goTo q (fresh s e) i) (raised-meets b x) in
-        rw y (landed up (λ v. meetsLower v b && not (ltZ v x)) s j (le-refl s) g (both (To b) up) l u Fresh Before ks
-        (λ n o. within-run (To b) up l u ks j (g .from) n (and-left (meetsLower (q .at j) b) (not (ltZ (q .at j) x)) o))
-        (firstFrom (λ i. both (To b) up (q .at i) && not (ltZ (q .at i) x)) s e) (swapped (To b) up l u x s))
+        rw y (landed up (λ v. meetsLower v b && not (ltZ v x)) s j (le-refl s) g (both (To b) up) mode l u Fresh Before ks
+        (λ n o. within-run (To b) up mode l u ks j (g .from) n (and-left (meetsLower (q .at j) b) (not (ltZ (q .at j) x)) o))
+        (firstFrom (λ i. both (To b) up (q .at i) && not (ltZ (q .at i) x)) s e) (swapped (To b) up mode l u x s))

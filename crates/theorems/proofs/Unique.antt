@@ -32,6 +32,7 @@ use Rattle.loftsplice.specs.declared.scan.Made.the-variants.{Ready as MadeReady
 use Rattle.loftsplice.specs.declared.scan.Moved.{Moved}
 use Rattle.filter_interval.specs.declared.Filter.{Filter}
 use Rattle.bounds.specs.declared.Bounds.{Bounds}
+use Rattle.bounds.specs.declared.Mode.{Mode}
 use Rattle.bounds.specs.declared.Limit.{Limit}
 use Rattle.bounds.specs.declared.Reading.{Reading}
 use Rattle.bounds.specs.declared.Reading.the-variants.{As, Refused as ReadingRefused}
@@ -177,5 +178,5 @@ module _ (b : Batch) where
 pub filter-reset-one : (f x y : Filter) → x ≡ filterResetOf f → y ≡ filterResetOf f → x ≡ y
 filter-reset-one f = one-result (λ x. x) (λ x y e. e)
 
-pub filter-new-one : (s : Scan) (lows ups : Bounds) (x y : Fitted) → saysFitted x ≡ fitOf s lows ups → saysFitted y ≡ fitOf s lows ups → x ≡ y
-filter-new-one s lows ups = one-result saysFitted fitted-apart
+pub filter-new-one : (s : Scan) (mode : Mode) (lows ups : Bounds) (x y : Fitted) → saysFitted x ≡ fitOf s mode lows ups → saysFitted y ≡ fitOf s mode lows ups → x ≡ y
+filter-new-one s mode lows ups = one-result saysFitted fitted-apart

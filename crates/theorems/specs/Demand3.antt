@@ -1,6 +1,6 @@
 -- The words of demand 3: what a run of calls on a new filter is to answer. Assumes nothing.
 use Prim.Native.Nat.{ℕ, suc}
-use mathlib.Core.Bool.{Bool, cond, not, _&&_}
+use mathlib.Core.Bool.{Bool, false, cond, not, _&&_}
 use mathlib.Core.List.{List, [], _∷_, _++_, map}
 use mathlib.Core.Option.{Option, some, none}
 use lib.Dec.{ltb}
@@ -10,6 +10,8 @@ use Rattle.ranges.specs.Ranges.{firstFrom, every, someOf}
 use Rattle.meaning.specs.Refusals.{Said, Gives}
 use Rattle.meaning.specs.Sequence.{Sequence, Source}
 use Rattle.bounds.specs.declared.Bound.{Bound}
+use Rattle.bounds.specs.declared.Mode.{Mode}
+use Rattle.bounds.specs.declared.Mode.the-variants.{InclusiveWins, ExclusiveWins}
 use Rattle.loftsplice.specs.declared.scan.Move.the-variants.{Next, Seek}
 use Rattle.loftsplice.specs.declared.scan.Move.{Move}
 use Rattle.loftsplice.specs.Scan.{fresh}
@@ -19,8 +21,8 @@ use Rattle.filter_interval.specs.Filter.{Call, newFilter, answersOf}
 -- ---- a run of calls
 
 -- "a fresh scan on it, a new filter": what a first call k and calls ks after it answer
-abbrev pub answers : Source → ℕ → ℕ → List Bound → List Bound → Call → List Call → List (Said (Option ℤ))
-answers p start end lows ups k ks = answersOf p (newFilter (fresh start end) lows ups) (k ∷ ks)
+abbrev pub answers : Source → ℕ → ℕ → Mode → List Bound → List Bound → Call → List Call → List (Said (Option ℤ))
+answers p start end mode lows ups k ks = answersOf p (newFilter (fresh start end) mode lows ups) (k ∷ ks)
 
 -- next or seek, of each call
 abbrev pub moves : List Call → List Move
@@ -52,6 +54,12 @@ bothWays ups v =
 -- there is such a value
 unfoldable pub tied : List Bound → Bool
 tied ups = someOf (λ b. bothWays ups (b .value)) ups
+
+-- "no least upper value given both as inclusive and exclusive" is asked where the inclusive one wins; request 4: "demand 3 loses its clause about ties in
+-- strict mode"
+abbrev pub tiedIn : Mode → List Bound → Bool
+tiedIn InclusiveWins ups = tied ups
+tiedIn ExclusiveWins ups = false
 
 -- ---- the answers
 

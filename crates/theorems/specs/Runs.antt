@@ -15,6 +15,8 @@ use Rattle.loftsplice.specs.declared.scan.State.{State}
 use Rattle.loftsplice.specs.declared.scan.State.the-variants.{Fresh, At, Ended}
 use Rattle.loftsplice.specs.declared.scan.Scan.{Scan}
 use Rattle.bounds.specs.declared.Bound.{Bound}
+use Rattle.bounds.specs.declared.Mode.{Mode}
+use Rattle.bounds.specs.declared.Mode.the-variants.{InclusiveWins, ExclusiveWins}
 use Rattle.filter_interval.specs.declared.Filter.{Filter}
 use Rattle.loftsplice.specs.Scan.{badScan, Go, saysAll}
 use Rattle.bounds.specs.Bounds.{meetsLower, meetsUpper}
@@ -79,9 +81,15 @@ walk xs ys (m ∷ ms) = let zs = ahead xs ys m in firstOf zs ∷ walk (restOf zs
 
 -- ---- folded bounds, and a tie
 
--- what a filter lets through, with a tie or without: "the least is the inclusive one although the comment asks that all bounds be met"
-unfoldable pub letThrough : List Bound → List Bound → ℤ → Bool
-letThrough lows ups v = every (meetsLower v) lows && (every (meetsUpper v) ups || bothWays ups v)
+-- a value that is let through though an upper bound is not met: "the least is the inclusive one although the comment asks that all bounds be met"; where the
+-- exclusive one wins there is none
+abbrev pub spared : Mode → List Bound → ℤ → Bool
+spared InclusiveWins ups v = bothWays ups v
+spared ExclusiveWins ups v = false
+
+-- what a filter lets through, with a tie or without
+unfoldable pub letThrough : Mode → List Bound → List Bound → ℤ → Bool
+letThrough mode lows ups v = every (meetsLower v) lows && (every (meetsUpper v) ups || spared mode ups v)
 
 -- ---- runs on a scan
 

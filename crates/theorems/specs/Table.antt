@@ -19,6 +19,8 @@ use Rattle.meaning.specs.declared.Answer.the-variants.{Value, None}
 use Rattle.bounds.specs.declared.BoundaryType.{BoundaryType}
 use Rattle.bounds.specs.declared.BoundaryType.the-variants.{Inclusive, Exclusive}
 use Rattle.bounds.specs.declared.Bound.{Bound}
+use Rattle.bounds.specs.declared.Mode.{Mode}
+use Rattle.bounds.specs.declared.Mode.the-variants.{InclusiveWins, ExclusiveWins}
 use Rattle.bounds.specs.declared.Bounds.{Bounds}
 use Rattle.bounds.specs.declared.Variable.{Variable}
 use Rattle.bounds.specs.declared.Variables.{Variables}
@@ -119,23 +121,29 @@ unfoldable pub sifts : Source → List FilterAct → Filter → List (Said (Opti
 sifts p [] f = []
 sifts p (a ∷ more) f = let m = filterAct p a f in m .said ∷ sifts p more (m .filter)
 
--- on a new filter of a fresh scan
+-- on a new filter of a fresh scan, in a mode; and in the Rust's, where of equal upper values the inclusive one wins
 abbrev pub onFitted : Source → Said Filter → List FilterAct → Seen
 onFitted p (Gives f) as′ = filtered (sifts p as′ f)
 onFitted p (Number n) as′ = filtered (Number n ∷ [])
 
+abbrev pub filterBy : Mode → Column → Bounds → Bounds → List FilterAct → Seen
+filterBy mode c lows ups as′ = onFitted (sourceOf c) (fitOf (fresh 0 (sizeOf c)) mode lows ups) as′
+
 abbrev pub filter : Column → Bounds → Bounds → List FilterAct → Seen
-filter c lows ups as′ = onFitted (sourceOf c) (fitOf (fresh 0 (sizeOf c)) lows ups) as′
+filter = filterBy InclusiveWins
 
 -- on a filter without bounds, in a state
 abbrev pub filterIn : Column → FilterState → List FilterAct → Seen
-filterIn c t as′ = filtered (sifts (sourceOf c) as′ (record { scan = fresh 0 (sizeOf c); lower = Free; upper = Free; state = t }))
+filterIn c t as′ = filtered (sifts (sourceOf c) as′ (record { scan = fresh 0 (sizeOf c); mode = InclusiveWins; lower = Free; upper = Free; state = t }))
 
--- a listing of windows, given by their starts and ends
-abbrev pub list : Column → List ℕ → List ℕ → Bounds → Bounds → List ℤ → List ℕ → Seen
-list c ss es lows ups out counts =
-    let b : Batch = record { source = sourceOf c; starts = ss; ends = es; lower = lows; upper = ups; out = out; counts = counts } in
+-- a listing of windows, given by their starts and ends, in a mode; and in the Rust's
+abbrev pub listBy : Mode → Column → List ℕ → List ℕ → Bounds → Bounds → List ℤ → List ℕ → Seen
+listBy mode c ss es lows ups out counts =
+    let b : Batch = record { source = sourceOf c; starts = ss; ends = es; mode = mode; lower = lows; upper = ups; out = out; counts = counts } in
     listed (listOf b) (outAfter b) (countsAfter b)
+
+abbrev pub list : Column → List ℕ → List ℕ → Bounds → Bounds → List ℤ → List ℕ → Seen
+list = listBy InclusiveWins
 
 -- lists by value: all of a list's items count
 abbrev pub these : List Bound → Bounds
