@@ -35,7 +35,7 @@ weaker : (s t : Bool) (x y : ℤ) → (s ≡ true → t ≡ true) → upTo t x y
 weaker true t x y f h = rw (f refl) at h
 weaker false t x y f h = not-yes (ltZ y x) (upto-le t x y h)
 
-abbrev strict : Bound → Bool
+abbrev pub strict : Bound → Bool
 strict b = isExclusive (b .boundary)
 
 -- an element above one that meets a lower bound meets it; one below one that meets an upper bound meets it
@@ -50,11 +50,11 @@ upper-down v w b l h = lt-upto (strict b) v (b .value) (lt-le v w (b .value) l (
 -- ---- the order of bounds: a is not after b
 
 -- of equal values: by the order, or with the kinds the other way round
-abbrev Kinds : Mode → Bool → Bool → Type 0
+abbrev pub Kinds : Mode → Bool → Bool → Type 0
 Kinds InclusiveWins s t = s ≡ true → t ≡ true
 Kinds ExclusiveWins s t = t ≡ true → s ≡ true
 
-abbrev NotAfter : Mode → Bound → Bound → Type 0
+abbrev pub NotAfter : Mode → Bound → Bound → Type 0
 NotAfter m a b = (ltZ (a .value) (b .value) ≡ true) ⊎ ((a .value ≡ b .value) × Kinds m (strict a) (strict b))
 
 itself : (m : Mode) (b : Bound) → NotAfter m b b
@@ -158,10 +158,10 @@ module _ (m : Mode) where
   lesser-right : (a b : Bound) → NotAfter m (lesser m a b) b
   lesser-right a b = either (wins m b a) (λ e. rw e (itself m b)) (λ e. rw e (not-winner m a b e))
 
-  least-in : (b : Bound) (bs : List Bound) → In (fold (lesser m) b bs) (b ∷ bs)
+  pub least-in : (b : Bound) (bs : List Bound) → In (fold (lesser m) b bs) (b ∷ bs)
   least-in = fold-in (lesser m) (lesser-one m)
 
-  least-first : (b : Bound) (bs : List Bound) (x : Bound) → In x (b ∷ bs) → NotAfter m (fold (lesser m) b bs) x
+  pub least-first : (b : Bound) (bs : List Bound) (x : Bound) → In x (b ∷ bs) → NotAfter m (fold (lesser m) b bs) x
   unfolding fold
   least-first b [] x (inl e) = rw e (itself m b)
   least-first b [] x (inr i) = absurd i
@@ -190,11 +190,11 @@ upper-strict (b ∷ bs) v = same (meetsUpper v m) (every (meetsUpper v) (b ∷ b
 -- ---- where the inclusive one wins
 
 -- a bound that is met, and one not before it that is not met: both have the value v itself
-record Tie (v : ℤ) (a b : Bound) : Type 0 where
-  left : a .value ≡ v
-  right : b .value ≡ v
-  includes : strict a ≡ false
-  excludes : strict b ≡ true
+pub record Tie (v : ℤ) (a b : Bound) : Type 0 where
+  pub left : a .value ≡ v
+  pub right : b .value ≡ v
+  pub includes : strict a ≡ false
+  pub excludes : strict b ≡ true
 
 upper-tie : (v : ℤ) (a b : Bound) → NotAfter InclusiveWins a b → meetsUpper v a ≡ true → meetsUpper v b ≡ false → Tie v a b
 unfolding meetsUpper
@@ -224,7 +224,7 @@ module _ (ups : List Bound) (v : ℤ) where
   unfolding bothWays
   both-parts = simp reading Iff·rfl
 
-  both-made : (a b : Bound) → In a ups → In b ups → Tie v a b → ((x : Bound) → In x ups → NotAfter InclusiveWins a x) → bothWays ups v ≡ true
+  pub both-made : (a b : Bound) → In a ups → In b ups → Tie v a b → ((x : Bound) → In x ups → NotAfter InclusiveWins a x) → bothWays ups v ≡ true
   both-made a b ia ib t first = both-parts .1 (
     at-every (λ x. not (ltZ (x .value) v)) ups (λ x i. under x (first x i)),
     at-some as-inclusive ups a (rw (t .left, lt-self v, t .includes)) ia,

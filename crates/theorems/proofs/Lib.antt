@@ -15,6 +15,7 @@ pub mod Expected
 pub mod FilterRuns
 pub mod Folded
 pub mod Demand3
+pub mod Modes
 pub mod ScanRuns
 pub mod Seeks
 pub mod Audit

@@ -9,7 +9,7 @@ use Rattle.meaning.specs.Column.{endBefore, runOf, elementAt, shapeOk, endOk, e
 use Rattle.meaning.specs.Calls.{diffStepOf, checkOf, placeOf, getOf}
 use Rattle.loftsplice.specs.Lead.{onPast, leadFrom}
 use Rattle.loftsplice.specs.Scan.{goTo, nextFrom, seekFrom, badScan, newOf, nextOf, seekOf, narrowOf, resetOf, currentOf, posOf, saysAll, leftBy}
-use Rattle.bounds.specs.Bounds.{less, fold, meetsLower, meetsUpper, readable, asRead}
+use Rattle.bounds.specs.Bounds.{less, tighter, fold, meetsLower, meetsUpper, readable, asRead}
 use Rattle.filter_interval.specs.Filter.{settle, stepFrom, fitOf, callOf, filterCurrentOf}
 use Rattle.loftsplice.specs.Listing.{windows, those, valuesIn, valuesOf, countsOf, listOf}
 use Rattle.theorems.specs.Table.{Row, table, endsFrom, sifts, times}
@@ -17,7 +17,7 @@ use Rattle.theorems.specs.Carried.{carriedTable}
 
 pub examples : map (λ (r : Row). r .got) table ≡ map (λ (r : Row). r .want) table
 unfolding allFor firstFor every fitsIn tried rises endBefore runOf elementAt shapeOk endOk endsOk runOk reachOk diffStepOf checkOf placeOf getOf
-    goTo nextFrom seekFrom badScan newOf nextOf seekOf narrowOf resetOf currentOf posOf less fold meetsUpper readable asRead onPast leadFrom settle stepFrom fitOf callOf filterCurrentOf
+    goTo nextFrom seekFrom badScan newOf nextOf seekOf narrowOf resetOf currentOf posOf less tighter fold meetsUpper readable asRead onPast leadFrom settle stepFrom fitOf callOf filterCurrentOf
     elementsFor meetsLower windows those valuesIn valuesOf countsOf listOf endsFrom saysAll leftBy sifts times
 examples = refl
 

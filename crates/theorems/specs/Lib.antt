@@ -4,6 +4,7 @@ pub mod Runs
 pub mod Audit
 pub mod Batch
 pub mod Table
+pub mod Modes
 pub mod Answered
 pub mod Resets
 pub mod Comments

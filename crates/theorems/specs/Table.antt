@@ -170,6 +170,10 @@ call m = ask (record { move = m; lower = named []; upper = named []; inputs = re
 abbrev pub between : Answer → Answer → FilterAct
 between low up = ask (record { move = Next; lower = named (input Exclusive 0 ∷ []); upper = named (input Inclusive 1 ∷ []); inputs = reads (low ∷ up ∷ []) })
 
+-- a call that is bounded by input 0, inclusive, above
+abbrev pub atMost : ℕ → FilterAct
+atMost x = ask (record { move = Next; lower = named []; upper = named (input Inclusive 0 ∷ []); inputs = reads (Value (pos x) ∷ []) })
+
 -- a call whose upper bound names input 1 of one
 abbrev pub missing : FilterAct
 missing = ask (record { move = Next; lower = named []; upper = named (input Inclusive 1 ∷ []); inputs = reads (Value (pos 1) ∷ []) })
@@ -250,6 +254,16 @@ table =
     -- "one run (9223372036854775800, 1): length 8 is valid, length 9 refused 3."
     ∷ P 12 (checked (checkOf (sourceOf (column (run 9223372036854775800 (pos 1) 8 ∷ []))))) (checked (Gives fine))
     ∷ P 12 (checked (checkOf (sourceOf (column (run 9223372036854775800 (pos 1) 9 ∷ []))))) (checked (Number 3))
+    -- P11 where the exclusive one wins: 10
+    ∷ own (filterBy ExclusiveWins C (these []) (these (bound Inclusive 15 ∷ bound Exclusive 15 ∷ [])) (times 2 (call Next))) (filtered (values (10 ∷ []) ++ nothing ∷ []))
+    -- the same with "at most 20" as a variable bound beside "below 20", and after reset, where the scan stands on 20
+    ∷ own (filterBy ExclusiveWins C (these (bound Inclusive 10 ∷ [])) (these (bound Exclusive 20 ∷ [])) (atMost 20 ∷ times 2 (call Next) ++ again ∷ atMost 20 ∷ []))
+    (filtered (values (10 ∷ 15 ∷ []) ++ nothing ∷ nothing ∷ nothing ∷ []))
+    ∷ own (filter C (these (bound Inclusive 10 ∷ [])) (these (bound Exclusive 20 ∷ [])) (atMost 20 ∷ times 3 (call Next) ++ again ∷ atMost 30 ∷ []))
+    (filtered (values (10 ∷ 15 ∷ 20 ∷ []) ++ nothing ∷ nothing ∷ nothing ∷ []))
+    -- lower bounds are folded alike in both modes: from 10 on and above 10
+    ∷ own (filterBy ExclusiveWins C (these (bound Inclusive 10 ∷ bound Exclusive 10 ∷ [])) (these []) (call Next ∷ [])) (filtered (values (15 ∷ [])))
+    ∷ own (filter C (these (bound Inclusive 10 ∷ bound Exclusive 10 ∷ [])) (these []) (call Next ∷ [])) (filtered (values (15 ∷ [])))
     -- C below 40: an exclusive upper bound
     ∷ own (filter C (these []) (these (bound Exclusive 40 ∷ [])) (times 7 (call Next))) (filtered (values (10 ∷ 15 ∷ 20 ∷ 25 ∷ 30 ∷ 31 ∷ []) ++ nothing ∷ []))
     -- C above input 0 and at most input 1, which are 15 and 140 at the first call; what later calls hand over is not read
@@ -305,4 +319,9 @@ table =
     ∷ own (list D (1 ∷ []) (5 ∷ []) (these []) (these []) (map pos (1 ∷ 2 ∷ 3 ∷ 4 ∷ [])) (9 ∷ [])) (listed (Gives 4) (map pos (5 ∷ 6 ∷ 7 ∷ 8 ∷ [])) (4 ∷ []))
     ∷ own (list D (1 ∷ []) (5 ∷ []) (these []) (these []) (map pos (1 ∷ 2 ∷ 3 ∷ [])) (9 ∷ [])) (listed (Number 10) (map pos (1 ∷ 2 ∷ 3 ∷ [])) (9 ∷ []))
     ∷ own (list D (1 ∷ 0 ∷ []) (5 ∷ 2 ∷ []) (these []) (these []) (map pos (1 ∷ 2 ∷ [])) (9 ∷ [])) (listed (Number 7) (map pos (1 ∷ 2 ∷ [])) (9 ∷ []))
+    -- C at most 25 and below 25, in both modes
+    ∷ own (list C (0 ∷ []) (9 ∷ []) (these []) (these (bound Inclusive 25 ∷ bound Exclusive 25 ∷ [])) (map pos (1 ∷ 2 ∷ 3 ∷ 4 ∷ 5 ∷ [])) (9 ∷ []))
+    (listed (Gives 4) (map pos (10 ∷ 15 ∷ 20 ∷ 25 ∷ 5 ∷ [])) (4 ∷ []))
+    ∷ own (listBy ExclusiveWins C (0 ∷ []) (9 ∷ []) (these []) (these (bound Inclusive 25 ∷ bound Exclusive 25 ∷ [])) (map pos (1 ∷ 2 ∷ 3 ∷ 4 ∷ 5 ∷ [])) (9 ∷ []))
+    (listed (Gives 3) (map pos (10 ∷ 15 ∷ 20 ∷ 4 ∷ 5 ∷ [])) (3 ∷ []))
     ∷ []

@@ -10,6 +10,7 @@
 //   Audit         record numbers that are sought in a presence column, and the list of filled logs
 //   Batch         one listing, what it leaves in its two arrays, and the part of the output that each window has
 //   Table         P1 to P12, and rows of our own
+//   Modes         the two modes of upper bounds beside each other
 //   Answered      single answers of a run: which searches were refused, which element a call may give
 //   Resets        calls on a filter, resets among them: the filter that they leave, and its initial state
 //   Comments      what the Rust's doc comments on filters and steps come to
@@ -19,6 +20,7 @@
 //
 // The theorems, proofs/:
 //   Demand3       a run of accepted calls answers what is expected; none stays; next alone lists; any run, refused calls among them
+//   Modes         where the exclusive bound wins demand 3 has no clause about ties; without a tie the modes answer and list alike
 //   Each          demand 3 answer by answer: the j-th answer is the earliest such element, and none exactly if there is none
 //   AcceptedRuns  a run on a new filter is accepted exactly if it is acceptable
 //   Audit         a number is answered with itself exactly if it is in the column; the filled logs are those that lack it; through a filter
@@ -42,6 +44,7 @@
 //   Columns       each index lies in one run, every element fits, short windows rise
 //   Places        what a place tells of the elements that follow; a walk from place to place meets each run once and ends at the length
 //   Bounds        the folded bound is met exactly if every bound is, but for a tie
+//   Bounds        the folded bound is met exactly if every bound is, but for a tie of upper bounds where the inclusive one wins
 //
 // What stands behind them, proofs/:
 //   Moves         where a next or seek leads, and that it keeps to its window
