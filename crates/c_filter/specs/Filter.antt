@@ -18,7 +18,7 @@ use Rattle.c_forms.specs.declared.scans.FlatScan.{FlatScan}
 use Rattle.c_forms.specs.Flat.{form, refusalIn, backOr}
 use Rattle.c_forms.specs.Answer.{flatAnswer}
 use Rattle.c_forms.specs.Scan.{flatScan, isState, goodScan, scanOf, noState, noScan}
-use Rattle.c_forms.specs.Limits.{flatLimit, isLimit, limitOf, kinds, founds, boundsOf, variablesOf, inputsOf}
+use Rattle.c_forms.specs.Limits.{flatLimit, isLimit, limitOf, modeNumber, isMode, modeOf, kinds, founds, boundsOf, variablesOf, inputsOf}
 use Rattle.c_filter.specs.declared.flat.FlatFilter.{FlatFilter}
 use Rattle.c_filter.specs.declared.flat.FlatNewFilter.{FlatNewFilter}
 use Rattle.c_filter.specs.declared.flat.FlatSifted.{FlatSifted}
@@ -38,29 +38,29 @@ keptIn (Within up) = up
 keptIn After = Free
 
 abbrev pub flatFilter : Filter → FlatFilter
-flatFilter f = record { scan = flatScan (f .scan); lower = flatLimit (f .lower); upper = flatLimit (f .upper); kept = flatLimit (keptIn (f .state)); state = filterStateNumber (f .state) }
+flatFilter f = record { scan = flatScan (f .scan); lower = flatLimit (f .lower); upper = flatLimit (f .upper); kept = flatLimit (keptIn (f .state)); state = filterStateNumber (f .state); mode = modeNumber (f .mode) }
 
 -- every number of a filter that is to be one of a few is one of them, also where it is not read
 unfoldable pub goodFilter : FlatFilter → Bool
-goodFilter f = goodScan (f .scan) && isState (f .state) && isLimit (f .lower .kind) && isLimit (f .upper .kind) && isLimit (f .kept .kind)
+goodFilter f = isMode (f .mode) && goodScan (f .scan) && isState (f .state) && isLimit (f .lower .kind) && isLimit (f .upper .kind) && isLimit (f .kept .kind)
 
 -- the state of a number that is one; the kept bound is read Within only
 abbrev pub filterStateOf : ℕ → Limit → FilterState
 filterStateOf n kept = cond (eqb n 0) Before (cond (eqb n 1) (Within kept) After)
 
 abbrev pub filterOf : FlatFilter → Filter
-filterOf f = record { scan = scanOf (f .scan); lower = limitOf (f .lower); upper = limitOf (f .upper); state = filterStateOf (f .state) (limitOf (f .kept)) }
+filterOf f = record { scan = scanOf (f .scan); mode = modeOf (f .mode); lower = limitOf (f .lower); upper = limitOf (f .upper); state = filterStateOf (f .state) (limitOf (f .kept)) }
 
 -- ---- the calls
 
 -- FORM, and then making a filter
-unfoldable pub askFit : FlatScan → List ℤ → List ℕ → List ℤ → List ℕ → Said Filter
-askFit s lows lowKinds ups upKinds =
-    cond (goodScan s && kinds (length lows) lowKinds && kinds (length ups) upKinds) (fitOf (scanOf s) (boundsOf lows lowKinds) (boundsOf ups upKinds)) (Number form)
+unfoldable pub askFit : FlatScan → ℕ → List ℤ → List ℕ → List ℤ → List ℕ → Said Filter
+askFit s mode lows lowKinds ups upKinds =
+    cond (goodScan s && isMode mode && kinds (length lows) lowKinds && kinds (length ups) upKinds) (fitOf (scanOf s) (modeOf mode) (boundsOf lows lowKinds) (boundsOf ups upKinds)) (Number form)
 
--- what stands for a filter that is refused: no state, so that each call on it is refused FORM
+-- what stands for a filter that is refused: no state and no mode, so that each call on it is refused FORM
 abbrev pub noFilter : FlatFilter
-noFilter = record { scan = noScan; lower = flatLimit Free; upper = flatLimit Free; kept = flatLimit Free; state = noState }
+noFilter = record { scan = noScan; lower = flatLimit Free; upper = flatLimit Free; kept = flatLimit Free; state = noState; mode = 0 }
 
 abbrev pub fitted : Said Filter → FlatFilter
 fitted (Gives f) = flatFilter f

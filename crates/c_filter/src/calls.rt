@@ -23,26 +23,28 @@ use c_forms::answers::bad_form;
 use c_forms::answers::flat_answer;
 use c_forms::limits::bounds_of;
 use c_forms::limits::inputs_of;
+use c_forms::limits::mode_of;
 use c_forms::limits::variables_of;
 use c_forms::scans::FlatScan;
 use c_forms::scans::scan_of;
 use filter_interval::Filter;
 
-// "Constant bounds are folded when a filter is made"; or refused 100, 8.
+// "Constant bounds are folded when a filter is made", in the mode that is chosen here; or refused 100, 8.
 #[no_mangle]
 pub extern "C" fn loftsplice_filter_new(
     scan: FlatScan,
+    mode: u32,
     lows: &[i64],
     lowkinds: &[u8],
     ups: &[i64],
     upkinds: &[u8],
 ) -> FlatNewFilter
-    ensures { λ r. ⌜ r ≡ flatNewFilter (askFit scan (now (lows .entry)) (now (lowkinds .entry)) (now (ups .entry)) (now (upkinds .entry))) ⌝ }
+    ensures { λ r. ⌜ r ≡ flatNewFilter (askFit scan mode (now (lows .entry)) (now (lowkinds .entry)) (now (ups .entry)) (now (upkinds .entry))) ⌝ }
 {
-    if is_fit(scan, lows.len(), lowkinds, ups.len(), upkinds) {
+    if is_fit(scan, mode, lows.len(), lowkinds, ups.len(), upkinds) {
         let lower = bounds_of(lows, lowkinds);
         let upper = bounds_of(ups, upkinds);
-        flat_new_filter(Filter::new(scan_of(scan), lower, upper))
+        flat_new_filter(Filter::new(scan_of(scan), mode_of(mode), lower, upper))
     } else {
         no_filter(100)
     }

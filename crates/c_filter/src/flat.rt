@@ -4,7 +4,7 @@ ghost use mathlib.Core.Bool.{_&&_};
 ghost use Rattle.meaning.specs.Refusals.{Number};
 ghost use Rattle.filter_interval.specs.Filter.{saysFitted, siftingOf};
 ghost use Rattle.c_forms.specs.Scan.{goodScan};
-ghost use Rattle.c_forms.specs.Limits.{kinds};
+ghost use Rattle.c_forms.specs.Limits.{isMode, kinds};
 ghost use Rattle.c_filter.specs.Filter.{goodFilter, goodLists, filterStateOf, filterOf, flatFilter, flatSifted, flatNewFilter};
 ghost use Rattle.c_filter.specs.Contracts.{lists};
 use bounds::Limit;
@@ -13,8 +13,11 @@ use c_forms::answers::flat_answer;
 use c_forms::limits::FlatLimit;
 use c_forms::limits::are_bounds;
 use c_forms::limits::flat_limit;
+use c_forms::limits::is_mode;
 use c_forms::limits::is_paired;
 use c_forms::limits::limit_of;
+use c_forms::limits::mode_number;
+use c_forms::limits::mode_of;
 use c_forms::scans::FlatScan;
 use c_forms::scans::flat_scan;
 use c_forms::scans::is_scan;
@@ -27,7 +30,7 @@ use filter_interval::Sifted;
 use loftsplice::refusal::number;
 use meaning::Answer;
 
-// A scan, the folded bounds, and a state: 0 Before, 1 Within, 2 After. The kept bound is read in state 1 only, and given as none in the others.
+// A scan, the folded bounds, a state: 0 Before, 1 Within, 2 After; and the mode. The kept bound is read in state 1 only, and given as none in the others.
 #[repr(C)]
 pub struct FlatFilter {
     pub scan: FlatScan,
@@ -35,6 +38,7 @@ pub struct FlatFilter {
     pub upper: FlatLimit,
     pub kept: FlatLimit,
     pub state: u32,
+    pub mode: u32,
 }
 
 // A refusal's number and a filter that is none, or 0 and the filter.
@@ -58,7 +62,7 @@ pub struct FlatReset {
     pub filter: FlatFilter,
 }
 
-// Whether the scan has the form, and every state and kind is one.
+// Whether the mode is one, the scan has the form, and every state and kind is one.
 pub(crate) fn is_filter(filter: FlatFilter) -> bool
     ensures { λ r. ⌜ r ≡ goodFilter filter ⌝ }
 {
@@ -66,6 +70,9 @@ pub(crate) fn is_filter(filter: FlatFilter) -> bool
     let lower = filter.lower;
     let upper = filter.upper;
     let kept = filter.kept;
+    if !is_mode(filter.mode) {
+        return false;
+    }
     if !is_scan(scan) {
         return false;
     }
@@ -98,12 +105,14 @@ pub(crate) fn filter_of(filter: FlatFilter) -> Filter
     ensures { λ r. ⌜ r ≡ filterOf filter ⌝ }
 {
     let scan = scan_of(filter.scan);
+    let mode = mode_of(filter.mode);
     let lower = limit_of(filter.lower);
     let upper = limit_of(filter.upper);
     let kept = limit_of(filter.kept);
     let state = filter_state_of(filter.state, kept);
     Filter {
         scan,
+        mode,
         lower,
         upper,
         state,
@@ -116,7 +125,9 @@ pub(crate) fn flat_filter(filter: Filter) -> FlatFilter
     let low = filter.lower;
     let high = filter.upper;
     let state = filter.state;
+    let wins = filter.mode;
     let scan = flat_scan(filter.scan);
+    let mode = mode_number(wins);
     let lower = flat_limit(low);
     let upper = flat_limit(high);
     match state {
@@ -126,6 +137,7 @@ pub(crate) fn flat_filter(filter: Filter) -> FlatFilter
             upper,
             kept: FlatLimit { value: 0, kind: 0 },
             state: 0,
+            mode,
         },
         FilterState::Within(up) => {
             let kept = flat_limit(up);
@@ -135,6 +147,7 @@ pub(crate) fn flat_filter(filter: Filter) -> FlatFilter
                 upper,
                 kept,
                 state: 1,
+                mode,
             }
         }
         FilterState::After => FlatFilter {
@@ -143,6 +156,7 @@ pub(crate) fn flat_filter(filter: Filter) -> FlatFilter
             upper,
             kept: FlatLimit { value: 0, kind: 0 },
             state: 2,
+            mode,
         },
     }
 }
@@ -196,22 +210,24 @@ pub(crate) fn no_filter(refusal: u32) -> FlatNewFilter
             upper: free,
             kept: free,
             state: 4294967295,
+            mode: 0,
         },
     }
 }
 
-// Whether what a filter is made from has the form: the scan, and each list of bounds.
+// Whether what a filter is made from has the form: the scan, the mode, and each list of bounds.
 pub(crate) fn is_fit(
     scan: FlatScan,
+    mode: u32,
     lower: usize,
     lowkinds: &[u8],
     upper: usize,
     upkinds: &[u8],
 ) -> bool
-    ensures { λ r. ⌜ r ≡ (goodScan scan && kinds lower (now (lowkinds .entry)) && kinds upper (now (upkinds .entry))) ⌝ }
+    ensures { λ r. ⌜ r ≡ (goodScan scan && isMode mode && kinds lower (now (lowkinds .entry)) && kinds upper (now (upkinds .entry))) ⌝ }
 {
     if is_scan(scan) {
-        are_bounds(lower, lowkinds, upper, upkinds)
+        are_bounds(mode, lower, lowkinds, upper, upkinds)
     } else {
         false
     }

@@ -1,10 +1,12 @@
--- Scans and limits as numbers, there and back. Assumes nothing.
+-- Scans, limits and modes as numbers, there and back. Assumes nothing.
 use mathlib.Core.Path.{_≡_, refl, ap}
 use mathlib.Core.Bool.{true, false}
 use lib.Dec.{eqb}
 use lib.IntN.{pos}
 use Rattle.bounds.specs.declared.BoundaryType.{BoundaryType}
 use Rattle.bounds.specs.declared.BoundaryType.the-variants.{Inclusive, Exclusive}
+use Rattle.bounds.specs.declared.Mode.{Mode}
+use Rattle.bounds.specs.declared.Mode.the-variants.{InclusiveWins, ExclusiveWins}
 use Rattle.bounds.specs.declared.Limit.{Limit}
 use Rattle.bounds.specs.declared.Limit.the-variants.{Free, To}
 use Rattle.loftsplice.specs.declared.scan.State.{State}
@@ -15,7 +17,7 @@ use Rattle.loftsplice.specs.declared.scan.Scan.{Scan}
 use Rattle.loftsplice.specs.Scan.{carriedBy}
 use Rattle.c_forms.specs.Flat.{foundIn, thereOr}
 use Rattle.c_forms.specs.Scan.{stateNumber, indexNumber, isState, isFound, goodScan, stateOf, carriedOf, scanOf, flatScan}
-use Rattle.c_forms.specs.Limits.{kindNumber, boundaryOf, flatLimit, isLimit, limitOf}
+use Rattle.c_forms.specs.Limits.{kindNumber, boundaryOf, flatLimit, isLimit, limitOf, modeNumber, isMode, modeOf}
 
 -- ---- a scan
 
@@ -68,3 +70,13 @@ limit-back (To b) = rw (kind-there (b .boundary), boundary-back (b .boundary))
 pub limit-given : (l : Limit) → isLimit (flatLimit l .kind) ≡ true
 limit-given Free = refl
 limit-given (To b) = kind-given (b .boundary)
+
+-- ---- a mode
+
+pub mode-back : (m : Mode) → modeOf (modeNumber m) ≡ m
+mode-back InclusiveWins = refl
+mode-back ExclusiveWins = refl
+
+pub mode-given : (m : Mode) → isMode (modeNumber m) ≡ true
+mode-given InclusiveWins = refl
+mode-given ExclusiveWins = refl

@@ -1,4 +1,4 @@
--- Bounds, variable bounds and inputs as numbers. Assumes nothing.
+-- Bounds, the mode of upper bounds, variable bounds and inputs as numbers. Assumes nothing.
 use Prim.Native.Nat.{ℕ}
 use mathlib.Core.Bool.{Bool, cond, _&&_}
 use mathlib.Core.List.{List}
@@ -12,6 +12,8 @@ use Rattle.bounds.specs.declared.BoundaryType.{BoundaryType}
 use Rattle.bounds.specs.declared.BoundaryType.the-variants.{Inclusive, Exclusive}
 use Rattle.bounds.specs.declared.Bound.{Bound}
 use Rattle.bounds.specs.declared.Variable.{Variable}
+use Rattle.bounds.specs.declared.Mode.{Mode}
+use Rattle.bounds.specs.declared.Mode.the-variants.{InclusiveWins, ExclusiveWins}
 use Rattle.bounds.specs.declared.Limit.{Limit}
 use Rattle.bounds.specs.declared.Limit.the-variants.{Free, To}
 use Rattle.bounds.specs.declared.Bounds.{Bounds}
@@ -43,11 +45,25 @@ isLimit n = leb n 2
 abbrev pub limitOf : FlatLimit → Limit
 limitOf l = cond (eqb (l .kind) 0) Free (To (record { boundary = boundaryOf (l .kind); value = l .value }))
 
--- ---- lists
-
 -- low ≤ n ≤ high
 abbrev pub between : ℕ → ℕ → ℕ → Bool
 between low high n = leb low n && leb n high
+
+-- ---- the mode
+
+-- a mode's number is the kind of the bound that wins: 1 inclusive, 2 exclusive; any other number is no mode
+abbrev pub modeNumber : Mode → ℕ
+modeNumber InclusiveWins = kindNumber Inclusive
+modeNumber ExclusiveWins = kindNumber Exclusive
+
+abbrev pub isMode : ℕ → Bool
+isMode n = between 1 2 n
+
+-- the mode of a number that is one
+abbrev pub modeOf : ℕ → Mode
+modeOf n = cond (eqb n 2) ExclusiveWins InclusiveWins
+
+-- ---- lists
 
 -- two lists that belong together: of equal length, and each number of the second from low to high; else FORM
 unfoldable pub paired : ℕ → ℕ → ℕ → List ℕ → Bool

@@ -1,16 +1,33 @@
-// Bounds, variable bounds and inputs as numbers: each is two lists that belong together, the second with a kind for each of the first.
+// Bounds, variable bounds and inputs as numbers: each is two lists that belong together, the second with a kind for each of the first. And the mode of
+// upper bounds.
 ghost use mathlib.Core.Path.{_≡_};
 ghost use mathlib.Core.Bool.{_&&_};
 ghost use lib.IntN.{pos};
 ghost use lib.ListN.{getD};
 ghost use Rattle.ranges.specs.Ranges.{every};
-ghost use Rattle.c_forms.specs.Limits.{kindNumber, flatLimit, boundaryOf, limitOf, between, paired, kinds, boundsOf, variablesOf, inputAt, inputsOf};
+ghost use Rattle.c_forms.specs.Limits.{
+  kindNumber,
+  flatLimit,
+  boundaryOf,
+  limitOf,
+  modeNumber,
+  isMode,
+  modeOf,
+  between,
+  paired,
+  kinds,
+  boundsOf,
+  variablesOf,
+  inputAt,
+  inputsOf,
+};
 use bounds::Bound;
 use bounds::BoundaryType;
 use bounds::Bounds;
 use bounds::Input;
 use bounds::Inputs;
 use bounds::Limit;
+use bounds::Mode;
 use bounds::Variable;
 use bounds::Variables;
 use meaning::Answer;
@@ -69,6 +86,37 @@ pub fn limit_of(limit: FlatLimit) -> Limit
     Limit::To(Bound { boundary, value })
 }
 
+// The number of a mode: the kind of the bound that wins.
+pub fn mode_number(mode: Mode) -> u32
+    ensures { λ r. ⌜ r ≡ modeNumber mode ⌝ }
+{
+    match mode {
+        Mode::InclusiveWins => 1,
+        Mode::ExclusiveWins => 2,
+    }
+}
+
+// Whether a number is a mode: 100 FORM is given if not.
+pub fn is_mode(number: u32) -> bool
+    ensures { λ r. ⌜ r ≡ isMode number ⌝ }
+{
+    if number < 1 {
+        return false;
+    }
+    number <= 2
+}
+
+// The mode of a number that is one: of any other too, but then FORM is given.
+pub fn mode_of(number: u32) -> Mode
+    ensures { λ r. ⌜ r ≡ modeOf number ⌝ }
+{
+    if number == 2 {
+        Mode::ExclusiveWins
+    } else {
+        Mode::InclusiveWins
+    }
+}
+
 // Whether each number is one of low..=high.
 fn all_between(low: u8, high: u8, numbers: &[u8]) -> bool
     ensures { λ r. ⌜ r ≡ every (between low high) (now (numbers .entry)) ⌝ }
@@ -98,10 +146,13 @@ pub fn is_paired(low: u8, high: u8, count: usize, numbers: &[u8]) -> bool
     }
 }
 
-// Whether two lists of bounds have the form.
-pub fn are_bounds(lower: usize, lowkinds: &[u8], upper: usize, upkinds: &[u8]) -> bool
-    ensures { λ r. ⌜ r ≡ (kinds lower (now (lowkinds .entry)) && kinds upper (now (upkinds .entry))) ⌝ }
+// Whether a mode and two lists of bounds have the form.
+pub fn are_bounds(mode: u32, lower: usize, lowkinds: &[u8], upper: usize, upkinds: &[u8]) -> bool
+    ensures { λ r. ⌜ r ≡ (isMode mode && kinds lower (now (lowkinds .entry)) && kinds upper (now (upkinds .entry))) ⌝ }
 {
+    if !is_mode(mode) {
+        return false;
+    }
     if is_paired(1, 2, lower, lowkinds) {
         is_paired(1, 2, upper, upkinds)
     } else {

@@ -11,10 +11,10 @@ use Rattle.loftsplice.specs.Listing.{values, numbers}
 use Rattle.c_listing.specs.Listing.{Request, batchOf, askList}
 
 module _ {A B C D E F : Type 0} where
-  -- the windows and bounds
-  abbrev pub request : Both (RefT (List ℕ)) A → Both (RefT (List ℕ)) B → Both (RefT (List ℤ)) C → Both (RefT (List ℕ)) D → Both (RefT (List ℤ)) E → Both (RefT (List ℕ)) F → Request
-  request from to lows lowKinds ups upKinds =
-      record { from = from .entry .now; to = to .entry .now; lows = lows .entry .now; lowKinds = lowKinds .entry .now; ups = ups .entry .now; upKinds = upKinds .entry .now }
+  -- the windows, the mode and the bounds
+  abbrev pub request : Both (RefT (List ℕ)) A → Both (RefT (List ℕ)) B → ℕ → Both (RefT (List ℤ)) C → Both (RefT (List ℕ)) D → Both (RefT (List ℤ)) E → Both (RefT (List ℕ)) F → Request
+  request from to mode lows lowKinds ups upKinds =
+      record { from = from .entry .now; to = to .entry .now; mode = mode; lows = lows .entry .now; lowKinds = lowKinds .entry .now; ups = ups .entry .now; upKinds = upKinds .entry .now }
 
 module _ {X Y : Type 0} (p : Source) (k : Request) (out : Both (RefT (List ℤ)) X) (counts : Both (RefT (List ℕ)) Y) where
   -- what is said

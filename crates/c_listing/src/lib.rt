@@ -6,6 +6,7 @@ ghost use Rattle.c_listing.specs.Listing.{flatListed};
 ghost use Rattle.c_listing.specs.Contracts.{request, listSays, valuesLeft, countsLeft};
 use c_forms::limits::are_bounds;
 use c_forms::limits::bounds_of;
+use c_forms::limits::mode_of;
 use loftsplice::listing::Listed;
 use loftsplice::listing::list;
 use loftsplice::refusal::number;
@@ -37,6 +38,7 @@ pub extern "C" fn loftsplice_list(
     steps: &[i16],
     from: &[u64],
     to: &[u64],
+    mode: u32,
     lows: &[i64],
     lowkinds: &[u8],
     ups: &[i64],
@@ -44,14 +46,26 @@ pub extern "C" fn loftsplice_list(
     out: &mut [i64],
     counts: &mut [u64],
 ) -> FlatListed
-    ensures { λ r. ⌜ r ≡ flatListed (listSays (source starts ends steps) (request from to lows lowkinds ups upkinds) out counts) ⌝ }
-    ensures { λ r. ⌜ now (out .exit) ≡ valuesLeft (source starts ends steps) (request from to lows lowkinds ups upkinds) out counts ⌝ }
-    ensures { λ r. ⌜ now (counts .exit) ≡ countsLeft (source starts ends steps) (request from to lows lowkinds ups upkinds) out counts ⌝ }
+    ensures { λ r. ⌜ r ≡ flatListed (listSays (source starts ends steps) (request from to mode lows lowkinds ups upkinds) out counts) ⌝ }
+    ensures { λ r. ⌜ now (out .exit) ≡ valuesLeft (source starts ends steps) (request from to mode lows lowkinds ups upkinds) out counts ⌝ }
+    ensures { λ r. ⌜ now (counts .exit) ≡ countsLeft (source starts ends steps) (request from to mode lows lowkinds ups upkinds) out counts ⌝ }
 {
-    if are_bounds(lows.len(), lowkinds, ups.len(), upkinds) {
+    if are_bounds(mode, lows.len(), lowkinds, ups.len(), upkinds) {
         let lower = bounds_of(lows, lowkinds);
         let upper = bounds_of(ups, upkinds);
-        let listed = list(starts, ends, steps, from, to, lower, upper, out, counts);
+        let wins = mode_of(mode);
+        let listed = list(
+            starts,
+            ends,
+            steps,
+            from,
+            to,
+            wins,
+            lower,
+            upper,
+            out,
+            counts,
+        );
         flat_listed(listed)
     } else {
         FlatListed {

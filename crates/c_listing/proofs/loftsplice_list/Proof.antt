@@ -14,6 +14,9 @@ bounds-of-requires c κs = search needs
 bounds-of-requires-2 : tie.Need-bounds-of-requires-2
 bounds-of-requires-2 c κs = search needs
 
+mode-of-requires : tie.Need-mode-of-requires
+mode-of-requires c κs = search needs
+
 list-requires : tie.Need-list-requires
 list-requires c κs = search needs
 
@@ -31,12 +34,13 @@ unfolding askList
 returns c =
     let at-back = c .before .before .before in
     let at-list = at-back .before in
-    let at-upper = at-list .before .before .before in
+    let at-mode = at-list .before .before .before in
+    let at-upper = at-mode .before in
     let at-lower = at-upper .before in
     let at-test = at-lower .before in
     rw (sym (at-test .before .are-bounds .ensures) ∙ at-test .if1 .taken) (
-      c .flat-listed .ensures ∙ ap flatListed (rw (at-lower .bounds-of .ensures, at-upper .bounds-of2 .ensures) at (at-list .list .ensures .0)),
-      (rw (at-lower .bounds-of .ensures, at-upper .bounds-of2 .ensures) at (at-list .list .ensures .1 .0), rw (at-lower .bounds-of .ensures, at-upper .bounds-of2 .ensures) at (at-list .list .ensures .1 .1)),
+      c .flat-listed .ensures ∙ ap flatListed (rw (at-lower .bounds-of .ensures, at-upper .bounds-of2 .ensures, at-mode .mode-of .ensures) at (at-list .list .ensures .0)),
+      (rw (at-lower .bounds-of .ensures, at-upper .bounds-of2 .ensures, at-mode .mode-of .ensures) at (at-list .list .ensures .1 .0), rw (at-lower .bounds-of .ensures, at-upper .bounds-of2 .ensures, at-mode .mode-of .ensures) at (at-list .list .ensures .1 .1)),
     )
 
 returns-2 : tie.Need-returns-2
@@ -50,6 +54,7 @@ loftsplice-list-spec =
     are-bounds-requires
     bounds-of-requires
     bounds-of-requires-2
+    mode-of-requires
     list-requires
     flat-listed-requires
     same-length

@@ -17,6 +17,9 @@ bounds-of-requires-2 c κs = search needs
 scan-of-requires : tie.Need-scan-of-requires
 scan-of-requires c κs = search needs
 
+mode-of-requires : tie.Need-mode-of-requires
+mode-of-requires c κs = search needs
+
 new-requires : tie.Need-new-requires
 new-requires c κs = search needs
 
@@ -29,10 +32,10 @@ no-filter-requires c κs = search needs
 returns : tie.Need-returns
 unfolding askFit
 returns c =
-    let at-upper = c .before .before .before in
+    let at-upper = c .before .before .before .before in
     let at-lower = at-upper .before in
     let at-test = at-lower .before in
-    rw (sym (at-test .before .is-fit .ensures) ∙ at-test .if1 .taken, sym (at-lower .bounds-of .ensures), sym (at-upper .bounds-of2 .ensures), sym (c .before .before .scan-of .ensures))
+    rw (sym (at-test .before .is-fit .ensures) ∙ at-test .if1 .taken, sym (at-lower .bounds-of .ensures), sym (at-upper .bounds-of2 .ensures), sym (c .before .before .before .scan-of .ensures), sym (c .before .before .mode-of .ensures))
     (c .flat-new-filter .ensures ∙ ap flatNewFilter (c .before .new .ensures))
 
 returns-2 : tie.Need-returns-2
@@ -47,6 +50,7 @@ loftsplice-filter-new-spec =
     bounds-of-requires
     bounds-of-requires-2
     scan-of-requires
+    mode-of-requires
     new-requires
     flat-new-filter-requires
     no-filter-requires
