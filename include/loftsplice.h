@@ -35,7 +35,7 @@ enum {
     LOFTSPLICE_CUT = 11,    /* record: fewer than 4 bytes, or fewer than the length says */
     LOFTSPLICE_KIND = 12,   /* record: kind is not 1 */
     LOFTSPLICE_SIZE = 13,   /* record: length under 2 or over 57,346, or length minus 2 no multiple of 14 */
-    LOFTSPLICE_FORM = 100   /* a number that is no state, kind or found, or two lists that belong together and differ in length */
+    LOFTSPLICE_FORM = 100   /* a number that is no state, kind, mode or found, or two lists that belong together and differ in length */
 };
 
 /* The state of a scan. */
@@ -46,6 +46,10 @@ enum { LOFTSPLICE_BEFORE = 0, LOFTSPLICE_WITHIN = 1, LOFTSPLICE_AFTER = 2 };
 
 /* The kind of a bound. In a list of bounds each is inclusive or exclusive; free, no bound, is for the limits that a filter holds. */
 enum { LOFTSPLICE_FREE = 0, LOFTSPLICE_INCLUSIVE = 1, LOFTSPLICE_EXCLUSIVE = 2 };
+
+/* The mode of a filter or listing: which of two upper bounds of one value wins. With "at most 15" beside "below 15" the first lets 15 through, as the
+ * Rust does; the second means both. The number is the kind of the bound that wins. Lower bounds are the same in both. */
+enum { LOFTSPLICE_INCLUSIVE_WINS = 1, LOFTSPLICE_EXCLUSIVE_WINS = 2 };
 
 /* The state in a scan or filter that was refused when it was made: no state, so that each call on it is refused LOFTSPLICE_FORM. */
 #define LOFTSPLICE_NO_STATE UINT32_C(4294967295)
@@ -68,13 +72,15 @@ typedef struct loftsplice_limit {
     uint32_t kind;
 } loftsplice_limit;
 
-/* A scan, the folded constant bounds and a state; the kept bound is read only when LOFTSPLICE_WITHIN, and given as free otherwise. */
+/* A scan, the folded constant bounds, a state and the mode that it was made in; the kept bound is read only when LOFTSPLICE_WITHIN, and given as free
+ * otherwise. */
 typedef struct loftsplice_filter {
     loftsplice_scan scan;
     loftsplice_limit lower;
     loftsplice_limit upper;
     loftsplice_limit kept;
     uint32_t state;
+    uint32_t mode;
 } loftsplice_filter;
 
 /* The number of elements. */
@@ -222,9 +228,10 @@ loftsplice_position loftsplice_scan_pos(loftsplice_scan scan, const int64_t *sta
 /* ---- the interval filter. Bounds are two lists: values, or for variable bounds the numbers of inputs (from 0), and a kind for each. Inputs are
  * two lists: values, and for each 1 if it has a value, 0 if none. */
 
-/* A filter over a scan, its constant bounds folded; or refused 100, 8, and then the filter's state is LOFTSPLICE_NO_STATE. */
-loftsplice_new_filter loftsplice_filter_new(loftsplice_scan scan, const int64_t *lower_values, size_t lower_values_len, const uint8_t *lower_kinds,
-    size_t lower_kinds_len, const int64_t *upper_values, size_t upper_values_len, const uint8_t *upper_kinds, size_t upper_kinds_len);
+/* A filter over a scan, in a mode, its constant bounds folded; or refused 100, 8, and then the filter's state is LOFTSPLICE_NO_STATE. */
+loftsplice_new_filter loftsplice_filter_new(loftsplice_scan scan, uint32_t mode, const int64_t *lower_values, size_t lower_values_len,
+    const uint8_t *lower_kinds, size_t lower_kinds_len, const int64_t *upper_values, size_t upper_values_len, const uint8_t *upper_kinds,
+    size_t upper_kinds_len);
 
 /* To the next element that meets the bounds, or none; or refused 100, 1, 2, 3, 6, 8, 7, 9. */
 loftsplice_sifted loftsplice_filter_next(loftsplice_filter filter, const int64_t *starts, size_t starts_len, const uint64_t *ends, size_t ends_len,
@@ -243,15 +250,16 @@ loftsplice_sifted loftsplice_filter_seek(loftsplice_filter filter, const int64_t
  * no column. */
 loftsplice_answer loftsplice_filter_current(loftsplice_filter filter);
 
-/* Before again, the scan as it stands; or refused 100. */
+/* Before again, in the same mode, the scan as it stands; or refused 100. */
 loftsplice_reset loftsplice_filter_reset(loftsplice_filter filter);
 
 /* ---- the batch listing */
 
 /* Writes the values of each window from[i]..to[i] that meet the constant bounds into out, window by window, and each window's number of values into
- * counts; answers their sum. What it does not fill stays as it was; a refusal writes nothing. Refused 100, 1, 2, 3, 8, 5, 7, 10. */
+ * counts; answers their sum. One mode for all windows. What it does not fill stays as it was; a refusal writes nothing. Refused 100, 1, 2, 3, 8, 5, 7,
+ * 10. */
 loftsplice_listed loftsplice_list(const int64_t *starts, size_t starts_len, const uint64_t *ends, size_t ends_len, const int16_t *steps,
-    size_t steps_len, const uint64_t *from, size_t from_len, const uint64_t *to, size_t to_len, const int64_t *lower_values,
+    size_t steps_len, const uint64_t *from, size_t from_len, const uint64_t *to, size_t to_len, uint32_t mode, const int64_t *lower_values,
     size_t lower_values_len, const uint8_t *lower_kinds, size_t lower_kinds_len, const int64_t *upper_values, size_t upper_values_len,
     const uint8_t *upper_kinds, size_t upper_kinds_len, int64_t *out, size_t out_len, uint64_t *counts, size_t counts_len);
 

@@ -88,6 +88,7 @@ static void same_filter_at(int line, loftsplice_filter got, loftsplice_filter wa
     same_limit_at(line, got.upper, wanted.upper.kind, wanted.upper.value);
     same_limit_at(line, got.kept, wanted.kept.kind, wanted.kept.value);
     same_at("filter.state", line, got.state, wanted.state);
+    same_at("filter.mode", line, got.mode, wanted.mode);
 }
 #define FILTER(got, wanted) same_filter_at(__LINE__, got, wanted)
 
@@ -150,12 +151,13 @@ static loftsplice_scan fresh(column c) {
     return made_scan.scan;
 }
 
-static loftsplice_filter fitted(loftsplice_scan s, const int64_t *lows, const uint8_t *low_kinds, size_t low_len, const int64_t *ups,
+static loftsplice_filter fitted_in(uint32_t mode, loftsplice_scan s, const int64_t *lows, const uint8_t *low_kinds, size_t low_len, const int64_t *ups,
     const uint8_t *up_kinds, size_t up_len) {
-    loftsplice_new_filter made_filter = loftsplice_filter_new(s, lows, low_len, low_kinds, low_len, ups, up_len, up_kinds, up_len);
-    SAME(made_filter.refusal, 0);
+    loftsplice_new_filter made_filter = loftsplice_filter_new(s, mode, lows, low_len, low_kinds, low_len, ups, up_len, up_kinds, up_len);
+    SAME(made_filter.refusal, 0), SAME(made_filter.filter.mode, mode);
     return made_filter.filter;
 }
+#define fitted(...) fitted_in(LOFTSPLICE_INCLUSIVE_WINS, __VA_ARGS__)
 
 static void columns(void) {
     SAME(loftsplice_check(LISTS(C)), 0);
@@ -444,6 +446,26 @@ static void filters(void) {
     m = seek_of(m.filter, C, 100, no_lists);
     VALUE(m.answer, 140), SCAN_AT(m.filter.scan, 0, 9, 7, 140);
 
+    /* its strict twin: both bounds mean both; the mode is kept by calls and by reset */
+    loftsplice_filter strict = fitted_in(LOFTSPLICE_EXCLUSIVE_WINS, s, NULL, NULL, 0, at_15, both, 2);
+    LIMIT(strict.upper, LOFTSPLICE_EXCLUSIVE, 15);
+    m = next_of(strict, C, no_lists);
+    VALUE(m.answer, 10), SAME(m.filter.mode, LOFTSPLICE_EXCLUSIVE_WINS), LIMIT(m.filter.kept, LOFTSPLICE_EXCLUSIVE, 15);
+    m = next_of(m.filter, C, no_lists);
+    NONE(m.answer), SAME(m.filter.state, LOFTSPLICE_AFTER), SAME(m.filter.mode, LOFTSPLICE_EXCLUSIVE_WINS);
+    r = loftsplice_filter_reset(m.filter);
+    SAME(r.refusal, 0), SAME(r.filter.mode, LOFTSPLICE_EXCLUSIVE_WINS), LIMIT(r.filter.upper, LOFTSPLICE_EXCLUSIVE, 15);
+    /* a constant and a variable bound of one value, in both modes; lower bounds go by the same order in both */
+    static const uint64_t input_0[] = {0};
+    static const int64_t twenty[] = {20};
+    static const uint8_t there[] = {1};
+    lists at_most_20 = {NULL, 0, NULL, 0, input_0, 1, inclusive, 1, twenty, 1, there, 1};
+    for (uint32_t mode = LOFTSPLICE_INCLUSIVE_WINS; mode <= LOFTSPLICE_EXCLUSIVE_WINS; mode++) {
+        m = next_of(fitted_in(mode, s, NULL, NULL, 0, twenty, exclusive, 1), C, at_most_20);
+        VALUE(m.answer, 10), LIMIT(m.filter.kept, mode, 20), LIMIT(m.filter.upper, LOFTSPLICE_EXCLUSIVE, 20);
+        LIMIT(fitted_in(mode, s, at_15, both, 2, NULL, NULL, 0).lower, LOFTSPLICE_EXCLUSIVE, 15);
+    }
+
     /* variable bounds: above input 1, at most input 0 */
     static const uint64_t name_0[] = {0}, name_1[] = {1}, name_2[] = {2};
     static const int64_t values[] = {30, 20, 5};
@@ -471,17 +493,17 @@ static void filters(void) {
     static uint64_t many_inputs[17];
     static uint8_t many_kinds[17], many_found[9];
     memset(many_kinds, LOFTSPLICE_INCLUSIVE, sizeof many_kinds);
-    loftsplice_new_filter n = loftsplice_filter_new(s, many, 17, many_kinds, 17, NULL, 0, NULL, 0);
+    loftsplice_new_filter n = loftsplice_filter_new(s, LOFTSPLICE_INCLUSIVE_WINS, many, 17, many_kinds, 17, NULL, 0, NULL, 0);
     SAME(n.refusal, LOFTSPLICE_BOUNDS);
     loftsplice_limit free_limit = {0, LOFTSPLICE_FREE};
-    loftsplice_filter no_filter = {{0, 0, 0, 0, LOFTSPLICE_NO_STATE, 0}, free_limit, free_limit, free_limit, LOFTSPLICE_NO_STATE};
+    loftsplice_filter no_filter = {{0, 0, 0, 0, LOFTSPLICE_NO_STATE, 0}, free_limit, free_limit, free_limit, LOFTSPLICE_NO_STATE, 0};
     FILTER(n.filter, no_filter);
-    n = loftsplice_filter_new(s, NULL, 0, NULL, 0, many, 17, many_kinds, 17);
+    n = loftsplice_filter_new(s, LOFTSPLICE_INCLUSIVE_WINS, NULL, 0, NULL, 0, many, 17, many_kinds, 17);
     SAME(n.refusal, LOFTSPLICE_BOUNDS);
-    n = loftsplice_filter_new(s, many, 16, many_kinds, 16, many, 16, many_kinds, 16);
+    n = loftsplice_filter_new(s, LOFTSPLICE_INCLUSIVE_WINS, many, 16, many_kinds, 16, many, 16, many_kinds, 16);
     SAME(n.refusal, 0), LIMIT(n.filter.lower, LOFTSPLICE_INCLUSIVE, 0);
     many[15] = 12;
-    n = loftsplice_filter_new(s, many, 16, many_kinds, 16, NULL, 0, NULL, 0);
+    n = loftsplice_filter_new(s, LOFTSPLICE_INCLUSIVE_WINS, many, 16, many_kinds, 16, NULL, 0, NULL, 0);
     SAME(n.refusal, 0), LIMIT(n.filter.lower, LOFTSPLICE_INCLUSIVE, 12);
     lists l17 = no_lists, l9 = no_lists;
     l17.upper = many_inputs, l17.upper_len = 17, l17.upper_kinds = many_kinds, l17.upper_kinds_len = 17;
@@ -499,26 +521,32 @@ static void filters(void) {
     NONE(loftsplice_filter_current(over_bad));
 
     /* 100: lists of unequal length, kinds that are none, also in a list that is too long; before all others */
-    n = loftsplice_filter_new(s, at_15, 2, both, 1, NULL, 0, NULL, 0);
+    n = loftsplice_filter_new(s, LOFTSPLICE_INCLUSIVE_WINS, at_15, 2, both, 1, NULL, 0, NULL, 0);
     SAME(n.refusal, LOFTSPLICE_FORM);
     FILTER(n.filter, no_filter);
-    n = loftsplice_filter_new(s, NULL, 0, NULL, 0, at_15, 1, both, 2);
+    n = loftsplice_filter_new(s, LOFTSPLICE_INCLUSIVE_WINS, NULL, 0, NULL, 0, at_15, 1, both, 2);
     SAME(n.refusal, LOFTSPLICE_FORM);
     many_kinds[16] = LOFTSPLICE_FREE;
-    n = loftsplice_filter_new(s, many, 17, many_kinds, 17, NULL, 0, NULL, 0);
+    n = loftsplice_filter_new(s, LOFTSPLICE_INCLUSIVE_WINS, many, 17, many_kinds, 17, NULL, 0, NULL, 0);
     SAME(n.refusal, LOFTSPLICE_FORM);
     many_kinds[16] = LOFTSPLICE_EXCLUSIVE;
     for (unsigned kind = 0; kind < 256; kind++) {
         uint8_t k = (uint8_t)kind;
         int good = kind == LOFTSPLICE_INCLUSIVE || kind == LOFTSPLICE_EXCLUSIVE;
-        n = loftsplice_filter_new(s, at_10, 1, &k, 1, NULL, 0, NULL, 0);
+        n = loftsplice_filter_new(s, LOFTSPLICE_INCLUSIVE_WINS, at_10, 1, &k, 1, NULL, 0, NULL, 0);
         SAME(n.refusal, good ? 0 : LOFTSPLICE_FORM);
         lists one = l;
         one.upper_kinds = &k;
         if (!good) CALL_REFUSED(uneven, f, one, LOFTSPLICE_FORM);
     }
+    static const uint32_t no_mode[] = {0, 3, 4, 100, UINT32_MAX};
+    for (size_t i = 0; i < sizeof no_mode / sizeof *no_mode; i++) {
+        n = loftsplice_filter_new(s, no_mode[i], many, 17, many_kinds, 17, NULL, 0, NULL, 0);
+        SAME(n.refusal, LOFTSPLICE_FORM);
+        FILTER(n.filter, no_filter);
+    }
     loftsplice_scan odd = {0, 9, 0, 0, 3, 0};
-    n = loftsplice_filter_new(odd, NULL, 0, NULL, 0, NULL, 0, NULL, 0);
+    n = loftsplice_filter_new(odd, LOFTSPLICE_INCLUSIVE_WINS, NULL, 0, NULL, 0, NULL, 0, NULL, 0);
     SAME(n.refusal, LOFTSPLICE_FORM);
     lists short_found = l, bad_found = l, short_kinds = l;
     short_found.found_len = 1, bad_found.found = no_bit, short_kinds.lower_kinds_len = 0;
@@ -526,11 +554,11 @@ static void filters(void) {
     CALL_REFUSED(C, f, bad_found, LOFTSPLICE_FORM);
     CALL_REFUSED(C, f, short_kinds, LOFTSPLICE_FORM);
 
-    /* every number of a filter that is to be a state, a kind or found, and is none */
-    loftsplice_filter bad[6] = {f, f, f, f, f, f};
+    /* every number of a filter that is to be a state, a kind, found or the mode, and is none */
+    loftsplice_filter bad[8] = {f, f, f, f, f, f, f, f};
     bad[0].scan.state = 3, bad[1].state = 3, bad[2].lower.kind = 3, bad[3].upper.kind = UINT32_MAX, bad[4].kept.kind = 4;
-    bad[5].scan.found = 2;
-    for (size_t i = 0; i < 6; i++) {
+    bad[5].mode = 0, bad[6].mode = 3, bad[7].scan.found = 2;
+    for (size_t i = 0; i < 8; i++) {
         bad[i].kept.value = 99;
         CALL_REFUSED(C, bad[i], no_lists, LOFTSPLICE_FORM);
         CALL_REFUSED(uneven, bad[i], l17, LOFTSPLICE_FORM);
@@ -552,7 +580,7 @@ static void listing_at(int line, column c, const uint64_t *from, size_t from_len
     uint64_t counts[4];
     for (size_t i = 0; i < 8; i++) out[i] = -77;
     for (size_t i = 0; i < 4; i++) counts[i] = 99;
-    loftsplice_listed l = loftsplice_list(LISTS(c), from, from_len, to, to_len, low, low_len, low_kinds, low_kinds_len, at_most, 1, kinds, 1, out,
+    loftsplice_listed l = loftsplice_list(LISTS(c), from, from_len, to, to_len, LOFTSPLICE_INCLUSIVE_WINS, low, low_len, low_kinds, low_kinds_len, at_most, 1, kinds, 1, out,
         out_len, counts, counts_len);
     same_at("listed.refusal", line, l.refusal, refusal);
     same_at("listed.sum", line, (int64_t)l.sum, (int64_t)sum);
@@ -579,6 +607,17 @@ static void listings(void) {
     LISTING(uneven, from, 3, to, 2, above, 1, exclusive, 1, 8, 4, LOFTSPLICE_SHAPE, all, 0, counts, 0);
     LISTING(uneven, from, 3, to, 2, above, 1, exclusive, 2, 8, 4, LOFTSPLICE_FORM, all, 0, counts, 0);
     LISTING(C, from, 3, to, 3, above, 1, no_kind, 1, 8, 4, LOFTSPLICE_FORM, all, 0, counts, 0);
+    /* at most 31 and below 31: in the one mode 30 and 31, in the other 30; a number that is no mode is refused before all else */
+    static const int64_t at_31[] = {31, 31};
+    static const uint8_t both[] = {LOFTSPLICE_INCLUSIVE, LOFTSPLICE_EXCLUSIVE};
+    for (uint32_t mode = 0; mode < 5; mode++) {
+        int64_t out[2] = {-77, -77};
+        uint64_t number[1] = {99};
+        loftsplice_listed l = loftsplice_list(LISTS(mode == 0 ? uneven : C), from, 1, to, 1, mode, above, 1, exclusive, 1, at_31, 2, both, 2, out, 2, number, 1);
+        int good = mode == LOFTSPLICE_INCLUSIVE_WINS || mode == LOFTSPLICE_EXCLUSIVE_WINS, two = mode == LOFTSPLICE_INCLUSIVE_WINS;
+        SAME(l.refusal, good ? 0 : LOFTSPLICE_FORM), SAME(l.sum, good ? 1 + two : 0), SAME(number[0], good ? 1 + two : 99);
+        SAME(out[0], good ? 30 : -77), SAME(out[1], two ? 31 : -77);
+    }
     static uint64_t many[257];
     LISTING(C, many, 257, many, 257, above, 1, exclusive, 1, 8, 4, LOFTSPLICE_BOUNDS, all, 0, counts, 0);
 }
