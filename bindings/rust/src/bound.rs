@@ -18,6 +18,37 @@ pub enum Bound<T = i64> {
     Exclusive(T),
 }
 
+/// Which of two upper bounds of one value wins, in a filter or a listing. Lower bounds are the same in both modes.
+///
+/// ```
+/// use loftsplice::{Bound, Column, Filter, Mode};
+///
+/// let column = Column::new(&[10], &[4], &[5])?; // 10 15 20 25
+/// let both = [Bound::Inclusive(15), Bound::Exclusive(15)]; // at most 15, and below 15
+/// let values = |mode| Filter::in_mode(mode, column.scan(), &[], &both)?.values().collect::<Result<Vec<_>, _>>();
+/// assert_eq!(values(Mode::default())?, [10, 15]);
+/// assert_eq!(values(Mode::ExclusiveWins)?, [10]);
+/// # Ok::<(), loftsplice::Refusal>(())
+/// ```
+#[derive(Clone, Copy, Debug, Default, PartialEq, Eq, Hash)]
+pub enum Mode {
+    /// The inclusive one, as in nemo: the value itself is let through although the exclusive bound is not met.
+    #[default]
+    InclusiveWins,
+    /// The exclusive one: what is let through meets every bound.
+    ExclusiveWins,
+}
+
+impl Mode {
+    /// The mode's number.
+    pub(crate) fn number(self) -> u32 {
+        match self {
+            Mode::InclusiveWins => raw::INCLUSIVE_WINS,
+            Mode::ExclusiveWins => raw::EXCLUSIVE_WINS,
+        }
+    }
+}
+
 /// Variable bounds, each naming an input, and the inputs' current answers: what is handed over with a filter's `next_with` and `seek_with`.
 ///
 /// ```

@@ -1,5 +1,5 @@
 use crate::bound::{limit, lists};
-use crate::{raw, Bound, Refusal, Scan, Variables};
+use crate::{raw, Bound, Mode, Refusal, Scan, Variables};
 
 /// The state of a filter.
 ///
@@ -43,8 +43,8 @@ pub struct Filter<'a> {
 }
 
 impl<'a> Filter<'a> {
-    /// A filter over a scan as it stands. The lower bound is the greatest of the list, the upper the least, where of equal values the inclusive one is
-    /// the lesser; an empty list gives none. Refused [`Refusal::Bounds`] for over 16 bounds in a list.
+    /// A filter over a scan as it stands, in the mode [`Mode::InclusiveWins`]. The lower bound is the greatest of the list, the upper the least, where of
+    /// equal values the inclusive one is the lesser; an empty list gives none. Refused [`Refusal::Bounds`] for over 16 bounds in a list.
     ///
     /// ```
     /// use loftsplice::{Bound, Column, Filter, Refusal};
@@ -56,9 +56,37 @@ impl<'a> Filter<'a> {
     /// # Ok::<(), Refusal>(())
     /// ```
     pub fn new(scan: Scan<'a>, lower: &[Bound], upper: &[Bound]) -> Result<Filter<'a>, Refusal> {
+        Filter::in_mode(Mode::default(), scan, lower, upper)
+    }
+
+    /// The same in a mode, which the filter keeps: it decides how upper bounds are folded, constant and variable ones together.
+    ///
+    /// ```
+    /// use loftsplice::{Bound, Column, Filter, Mode, Variables};
+    ///
+    /// let scan = Column::new(&[7], &[3], &[2])?.scan();
+    /// let mut filter = Filter::in_mode(Mode::ExclusiveWins, scan, &[], &[Bound::Exclusive(9)])?;
+    /// let at_most_9 = Variables { upper: &[Bound::Inclusive(0)], inputs: &[Some(9)], ..Variables::default() };
+    /// assert_eq!(filter.next_with(at_most_9)?, Some(7));
+    /// assert_eq!(filter.next()?, None);
+    /// # Ok::<(), loftsplice::Refusal>(())
+    /// ```
+    pub fn in_mode(
+        mode: Mode,
+        scan: Scan<'a>,
+        lower: &[Bound],
+        upper: &[Bound],
+    ) -> Result<Filter<'a>, Refusal> {
         let (lows, low_kinds) = lists(lower, |value| value);
         let (ups, up_kinds) = lists(upper, |value| value);
-        let made = raw::filter_new(scan.raw(), &lows, &low_kinds, &ups, &up_kinds);
+        let made = raw::filter_new(
+            scan.raw(),
+            mode.number(),
+            &lows,
+            &low_kinds,
+            &ups,
+            &up_kinds,
+        );
         Refusal::or(
             made.refusal,
             Filter {
@@ -200,7 +228,7 @@ impl<'a> Filter<'a> {
         (answer.found == 1).then_some(answer.value)
     }
 
-    /// Before again. The scan is left where it stands.
+    /// Before again, in the same mode. The scan is left where it stands.
     ///
     /// ```
     /// let mut filter = loftsplice::Filter::new(loftsplice::Column::new(&[7], &[3], &[2])?.scan(), &[], &[])?;
@@ -259,6 +287,20 @@ impl<'a> Filter<'a> {
     /// ```
     pub fn upper(&self) -> Option<Bound> {
         limit(self.filter.upper)
+    }
+
+    /// The mode that the filter was made in.
+    ///
+    /// ```
+    /// let filter = loftsplice::Filter::new(loftsplice::Column::new(&[], &[], &[])?.scan(), &[], &[])?;
+    /// assert_eq!(filter.mode(), loftsplice::Mode::InclusiveWins);
+    /// # Ok::<(), loftsplice::Refusal>(())
+    /// ```
+    pub fn mode(&self) -> Mode {
+        match self.filter.mode {
+            raw::EXCLUSIVE_WINS => Mode::ExclusiveWins,
+            _ => Mode::InclusiveWins,
+        }
     }
 
     /// The state.

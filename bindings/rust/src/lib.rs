@@ -30,10 +30,10 @@ mod scan;
 #[allow(unsafe_code)]
 mod sys;
 
-pub use bound::{Bound, Variables};
+pub use bound::{Bound, Mode, Variables};
 pub use column::{diff_step, Column, Place};
 pub use filter::{Filter, FilterState, Values};
-pub use listing::list;
+pub use listing::{list, list_in_mode};
 pub use record::{read_record, write_record, Record};
 pub use refusal::Refusal;
 pub use scan::{Scan, ScanState};

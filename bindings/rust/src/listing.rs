@@ -1,11 +1,11 @@
 use std::ops::Range;
 
 use crate::bound::lists;
-use crate::{raw, Bound, Column, Refusal};
+use crate::{raw, Bound, Column, Mode, Refusal};
 
 /// Writes the values of each window that meet the constant bounds into `out`, window by window, and each window's number of values into `counts`;
-/// answers their sum. Places that are not filled stay as they were. Refused [`Refusal::Bounds`], [`Refusal::Window`], [`Refusal::Order`],
-/// [`Refusal::Room`], and then nothing is written.
+/// answers their sum. The mode is [`Mode::InclusiveWins`]. Places that are not filled stay as they were. Refused [`Refusal::Bounds`],
+/// [`Refusal::Window`], [`Refusal::Order`], [`Refusal::Room`], and then nothing is written.
 ///
 /// ```
 /// use loftsplice::{list, Bound, Column, Refusal};
@@ -25,6 +25,31 @@ pub fn list(
     out: &mut [i64],
     counts: &mut [u64],
 ) -> Result<u64, Refusal> {
+    list_in_mode(Mode::default(), column, windows, lower, upper, out, counts)
+}
+
+/// The same in a mode, one for all windows.
+///
+/// ```
+/// use loftsplice::{list_in_mode, Bound, Column, Mode, Refusal};
+///
+/// let column = Column::new(&[10], &[4], &[5])?; // 10 15 20 25
+/// let both = [Bound::Inclusive(15), Bound::Exclusive(15)];
+/// let (mut out, mut counts) = ([0; 2], [0; 1]);
+/// let windows = std::slice::from_ref(&(0..4));
+/// assert_eq!(list_in_mode(Mode::ExclusiveWins, column, windows, &[], &both, &mut out, &mut counts)?, 1);
+/// assert_eq!((out, counts), ([10, 0], [1]));
+/// # Ok::<(), Refusal>(())
+/// ```
+pub fn list_in_mode(
+    mode: Mode,
+    column: Column<'_>,
+    windows: &[Range<u64>],
+    lower: &[Bound],
+    upper: &[Bound],
+    out: &mut [i64],
+    counts: &mut [u64],
+) -> Result<u64, Refusal> {
     let (from, to): (Vec<u64>, Vec<u64>) = windows
         .iter()
         .map(|window| (window.start, window.end))
@@ -37,6 +62,7 @@ pub fn list(
         column.steps(),
         &from,
         &to,
+        mode.number(),
         &lows,
         &low_kinds,
         &ups,

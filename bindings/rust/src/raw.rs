@@ -18,7 +18,7 @@ pub use crate::sys::{
     scan_pos, scan_reset, scan_seek, write_record,
 };
 
-/// The refusal of a number that is no state, kind or `found`, and of two lists that belong together and differ in length; tried before all others.
+/// The refusal of a number that is no state, kind, mode or `found`, and of two lists that belong together and differ in length; tried before all others.
 pub const FORM: u32 = 100;
 
 /// State of a scan: before its window's first element.
@@ -41,6 +41,11 @@ pub const FREE: u32 = 0;
 pub const INCLUSIVE: u32 = 1;
 /// Kind of a bound: the value itself does not meet it.
 pub const EXCLUSIVE: u32 = 2;
+
+/// Mode of a filter or listing: of two upper bounds of one value the inclusive one wins.
+pub const INCLUSIVE_WINS: u32 = 1;
+/// Mode of a filter or listing: of two upper bounds of one value the exclusive one wins.
+pub const EXCLUSIVE_WINS: u32 = 2;
 
 /// The state in a scan or filter that was refused when it was made: no state, so that each call on it is refused [`FORM`].
 pub const NO_STATE: u32 = u32::MAX;
@@ -74,7 +79,7 @@ pub struct Limit {
     pub kind: u32,
 }
 
-/// A scan, the folded constant bounds and a state; `kept` is read only when [`WITHIN`], and given as free otherwise.
+/// A scan, the folded constant bounds, a state and the mode that it was made in; `kept` is read only when [`WITHIN`], and given as free otherwise.
 #[repr(C)]
 #[derive(Clone, Copy, Debug, PartialEq, Eq)]
 pub struct Filter {
@@ -88,6 +93,8 @@ pub struct Filter {
     pub kept: Limit,
     /// A state.
     pub state: u32,
+    /// A mode.
+    pub mode: u32,
 }
 
 /// The number of elements.

@@ -110,6 +110,7 @@ extern "C" {
     ) -> Position;
     fn loftsplice_filter_new(
         scan: Scan,
+        mode: u32,
         lower_values: *const i64,
         lower_values_len: usize,
         lower_kinds: *const u8,
@@ -194,6 +195,7 @@ extern "C" {
         from_len: usize,
         to: *const u64,
         to_len: usize,
+        mode: u32,
         lower_values: *const i64,
         lower_values_len: usize,
         lower_kinds: *const u8,
@@ -500,17 +502,21 @@ pub fn scan_pos(scan: Scan, starts: &[i64], ends: &[u64], steps: &[i16]) -> Posi
     }
 }
 
-/// A filter over a scan, its constant bounds (a value and a kind each) folded; or refused 100, 8.
+/// A filter over a scan, in a mode, its constant bounds (a value and a kind each) folded; or refused 100, 8.
 ///
 /// ```
 /// use loftsplice::raw;
 ///
 /// let scan = raw::scan_new(&[10, 30], &[4, 5], &[5, 0]).scan;
-/// let made = raw::filter_new(scan, &[10, 15], &[1, 2], &[], &[]);
+/// let made = raw::filter_new(scan, raw::INCLUSIVE_WINS, &[10, 15], &[1, 2], &[], &[]);
 /// assert_eq!(made.filter.lower, raw::Limit { value: 15, kind: raw::EXCLUSIVE });
+/// let strict = raw::filter_new(scan, raw::EXCLUSIVE_WINS, &[], &[], &[15, 15], &[1, 2]);
+/// assert_eq!(strict.filter.upper, raw::Limit { value: 15, kind: raw::EXCLUSIVE });
+/// assert_eq!(raw::filter_new(scan, 3, &[], &[], &[], &[]).refusal, raw::FORM);
 /// ```
 pub fn filter_new(
     scan: Scan,
+    mode: u32,
     lower_values: &[i64],
     lower_kinds: &[u8],
     upper_values: &[i64],
@@ -520,6 +526,7 @@ pub fn filter_new(
     unsafe {
         loftsplice_filter_new(
             scan,
+            mode,
             lower_values.as_ptr(),
             lower_values.len(),
             lower_kinds.as_ptr(),
@@ -538,7 +545,7 @@ pub fn filter_new(
 /// use loftsplice::raw;
 ///
 /// let scan = raw::scan_new(&[10, 30], &[4, 5], &[5, 0]).scan;
-/// let filter = raw::filter_new(scan, &[15], &[2], &[], &[]).filter;
+/// let filter = raw::filter_new(scan, raw::INCLUSIVE_WINS, &[15], &[2], &[], &[]).filter;
 /// let sifted = raw::filter_next(filter, &[10, 30], &[4, 5], &[5, 0], raw::Variables::default());
 /// assert_eq!((sifted.answer.value, sifted.filter.state), (20, raw::WITHIN));
 /// ```
@@ -581,7 +588,7 @@ pub fn filter_next(
 /// use loftsplice::raw;
 ///
 /// let scan = raw::scan_new(&[10, 30], &[4, 5], &[5, 0]).scan;
-/// let filter = raw::filter_new(scan, &[10], &[2], &[], &[]).filter;
+/// let filter = raw::filter_new(scan, raw::INCLUSIVE_WINS, &[10], &[2], &[], &[]).filter;
 /// let sifted = raw::filter_seek(filter, &[10, 30], &[4, 5], &[5, 0], 21, raw::Variables::default());
 /// assert_eq!(sifted.answer.value, 25);
 /// ```
@@ -627,7 +634,7 @@ pub fn filter_seek(
 /// use loftsplice::raw;
 ///
 /// let scan = raw::scan_new(&[10, 30], &[4, 5], &[5, 0]).scan;
-/// let filter = raw::filter_new(scan, &[], &[], &[], &[]).filter;
+/// let filter = raw::filter_new(scan, raw::INCLUSIVE_WINS, &[], &[], &[], &[]).filter;
 /// assert_eq!(raw::filter_current(filter).found, 0);
 /// ```
 pub fn filter_current(filter: Filter) -> Answer {
@@ -635,13 +642,13 @@ pub fn filter_current(filter: Filter) -> Answer {
     unsafe { loftsplice_filter_current(filter) }
 }
 
-/// Before again, the scan as it stands; or refused 100.
+/// Before again, in the same mode, the scan as it stands; or refused 100.
 ///
 /// ```
 /// use loftsplice::raw;
 ///
 /// let scan = raw::scan_new(&[10, 30], &[4, 5], &[5, 0]).scan;
-/// let filter = raw::filter_new(scan, &[], &[], &[], &[]).filter;
+/// let filter = raw::filter_new(scan, raw::INCLUSIVE_WINS, &[], &[], &[], &[]).filter;
 /// assert_eq!(raw::filter_reset(filter).filter, filter);
 /// assert_eq!(raw::filter_reset(raw::Filter { state: 9, ..filter }).refusal, raw::FORM);
 /// ```
@@ -651,13 +658,14 @@ pub fn filter_reset(filter: Filter) -> Reset {
 }
 
 /// Writes the values of each window that meet the constant bounds into `out`, window by window, and each window's number of values into `counts`;
-/// answers their sum. Or refused 100, 1, 2, 3, 8, 5, 7, 10.
+/// answers their sum. One mode for all windows. Or refused 100, 1, 2, 3, 8, 5, 7, 10.
 ///
 /// ```
 /// use loftsplice::raw;
 ///
 /// let (mut out, mut counts) = ([0i64; 8], [0u64; 2]);
-/// let listed = raw::list(&[10, 30], &[4, 5], &[5, 0], &[0, 2], &[5, 5], &[15], &[2], &[], &[], &mut out, &mut counts);
+/// let listed =
+///     raw::list(&[10, 30], &[4, 5], &[5, 0], &[0, 2], &[5, 5], raw::INCLUSIVE_WINS, &[15], &[2], &[], &[], &mut out, &mut counts);
 /// assert_eq!((listed.refusal, listed.sum, counts), (0, 6, [3, 3]));
 /// assert_eq!(out, [20, 25, 30, 20, 25, 30, 0, 0]);
 /// ```
@@ -669,6 +677,7 @@ pub fn list(
     steps: &[i16],
     from: &[u64],
     to: &[u64],
+    mode: u32,
     lower_values: &[i64],
     lower_kinds: &[u8],
     upper_values: &[i64],
@@ -690,6 +699,7 @@ pub fn list(
             from.len(),
             to.as_ptr(),
             to.len(),
+            mode,
             lower_values.as_ptr(),
             lower_values.len(),
             lower_kinds.as_ptr(),

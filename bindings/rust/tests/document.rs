@@ -1,5 +1,7 @@
 //! Document 01's examples through the safe calls, and refusals, also of bad numbers, through `raw`.
-use loftsplice::{raw, Bound, Column, Filter, Place, Refusal, Scan, ScanState};
+use loftsplice::{
+    list_in_mode, raw, Bound, Column, Filter, Mode, Place, Refusal, Scan, ScanState, Variables,
+};
 
 /// 10 15 20 25, 30, 31, 40 140 240
 const C: (&[i64], &[u64], &[i16]) = (&[10, 30, 31, 40], &[4, 5, 6, 9], &[5, 0, -3, 100]);
@@ -76,6 +78,59 @@ fn p10_p11_filters() {
     );
     let mut filter = Filter::new(column(C).scan(), &[], &[]).unwrap();
     assert_eq!(filter.seek(100), Ok(Some(10)));
+}
+
+/// The twin of P11: both upper bounds mean both. Lower bounds are the same in both modes.
+#[test]
+fn p11_in_strict_mode() {
+    let both = |value| [Bound::Inclusive(value), Bound::Exclusive(value)];
+    for (mode, upper, values) in [
+        (Mode::default(), Bound::Inclusive(15), vec![10, 15]),
+        (Mode::ExclusiveWins, Bound::Exclusive(15), vec![10]),
+    ] {
+        let filter = Filter::in_mode(mode, column(C).scan(), &both(0), &both(15)).unwrap();
+        assert_eq!(
+            (filter.mode(), filter.lower(), filter.upper()),
+            (mode, Some(Bound::Exclusive(0)), Some(upper))
+        );
+        let given: Vec<i64> = filter.values().collect::<Result<_, _>>().unwrap();
+        assert_eq!(given, values);
+        let (mut out, mut counts) = ([-77; 2], [99]);
+        let window = 0..9;
+        let windows = std::slice::from_ref(&window);
+        let sum = list_in_mode(
+            mode,
+            column(C),
+            windows,
+            &[],
+            &both(15),
+            &mut out,
+            &mut counts,
+        );
+        assert_eq!(sum, Ok(values.len() as u64));
+        assert_eq!(&out[..values.len()], values);
+    }
+}
+
+/// "Reset keeps it": the scan stands on 20, and "at most 20" beside "below 20" does not let it through again.
+#[test]
+fn reset_keeps_the_mode() {
+    let at_most_20 = Variables {
+        upper: &[Bound::Inclusive(0)],
+        inputs: &[Some(20)],
+        ..Variables::default()
+    };
+    for (mode, again) in [(Mode::InclusiveWins, Some(20)), (Mode::ExclusiveWins, None)] {
+        let mut scan = column(C).scan();
+        scan.seek(20).unwrap();
+        let (lower, upper) = ([Bound::Inclusive(10)], [Bound::Exclusive(20)]);
+        let mut filter = Filter::in_mode(mode, scan, &lower, &upper).unwrap();
+        for _ in 0..2 {
+            assert_eq!(filter.next_with(at_most_20), Ok(again));
+            filter.reset();
+            assert_eq!(filter.mode(), mode);
+        }
+    }
 }
 
 #[test]
@@ -201,7 +256,7 @@ fn bad_numbers_are_refused_and_come_back() {
             raw::Moved { scan, answer }
         );
         assert_eq!(raw::scan_current(scan), answer);
-        let made = raw::filter_new(scan, &[], &[], &[], &[]);
+        let made = raw::filter_new(scan, raw::INCLUSIVE_WINS, &[], &[], &[], &[]);
         assert_eq!(
             (made.refusal, made.filter.state),
             (raw::FORM, raw::NO_STATE)
@@ -228,7 +283,25 @@ fn bad_numbers_are_refused_and_come_back() {
             upper: free,
             kept,
             state: raw::BEFORE,
+            mode: raw::INCLUSIVE_WINS,
         };
+        // a number that is no mode, in a filter that is good otherwise
+        let unmoded = raw::Filter {
+            kept: free,
+            mode: state,
+            ..filter
+        };
+        assert_eq!(
+            raw::filter_next(unmoded, starts, ends, steps, raw::Variables::default()),
+            raw::Sifted {
+                filter: unmoded,
+                answer
+            }
+        );
+        assert_eq!(
+            raw::filter_new(fresh, state, &[], &[], &[], &[]).refusal,
+            raw::FORM
+        );
         assert_eq!(
             raw::filter_next(filter, starts, ends, steps, raw::Variables::default()),
             raw::Sifted { filter, answer }
@@ -245,16 +318,16 @@ fn bad_numbers_are_refused_and_come_back() {
     for kind in 0..=255 {
         let refusal = if kind == 1 || kind == 2 { 0 } else { raw::FORM };
         assert_eq!(
-            raw::filter_new(fresh, &[], &[], &[5], &[kind]).refusal,
+            raw::filter_new(fresh, raw::INCLUSIVE_WINS, &[], &[], &[5], &[kind]).refusal,
             refusal
         );
     }
     assert_eq!(
-        raw::filter_new(fresh, &[5], &[], &[], &[]).refusal,
+        raw::filter_new(fresh, raw::INCLUSIVE_WINS, &[5], &[], &[], &[]).refusal,
         raw::FORM
     );
     assert_eq!(
-        raw::filter_new(fresh, &[5; 17], &[1; 17], &[], &[]).refusal,
+        raw::filter_new(fresh, raw::INCLUSIVE_WINS, &[5; 17], &[1; 17], &[], &[]).refusal,
         8
     );
     assert_eq!(raw::scan_new(starts, &ends[1..], steps).refusal, 1);
@@ -264,12 +337,33 @@ fn bad_numbers_are_refused_and_come_back() {
 fn a_refused_listing_writes_nothing() {
     let (starts, ends, steps) = C;
     let (mut out, mut counts) = ([-77; 4], [99; 3]);
+    for mode in [0, 3, 100, u32::MAX] {
+        let listed = raw::list(
+            starts,
+            &[],
+            steps,
+            &[3],
+            &[6],
+            mode,
+            &[],
+            &[],
+            &[],
+            &[],
+            &mut out,
+            &mut counts,
+        );
+        assert_eq!(
+            (listed.refusal, out, counts),
+            (raw::FORM, [-77; 4], [99; 3])
+        );
+    }
     let listed = raw::list(
         starts,
         ends,
         steps,
         &[0, 3],
         &[9, 6],
+        raw::INCLUSIVE_WINS,
         &[],
         &[],
         &[],
@@ -294,6 +388,7 @@ fn a_refused_listing_writes_nothing() {
         steps,
         &[3],
         &[6],
+        raw::INCLUSIVE_WINS,
         &[],
         &[],
         &[],
