@@ -4,6 +4,7 @@ use bounds::Bound;
 use bounds::BoundaryType;
 use bounds::Bounds;
 use bounds::Limit;
+use bounds::Mode;
 use loftsplice::listing::Listed;
 use loftsplice::listing::list;
 use loftsplice::scan::Made;
@@ -59,12 +60,15 @@ fn piece(
 ) -> bool {
     let mut out = [0i64; 2048];
     let mut counts = [0u64; 1];
+    // There is one upper bound at most, so the modes list alike.
+    let mode = Mode::InclusiveWins;
     match list(
         starts,
         ends,
         steps,
         &[at],
         &[stop],
+        mode,
         lower,
         upper,
         &mut out,

@@ -25,6 +25,8 @@ fn on_c(v: &[i64], e: &[u64], d: &[i16]) {
         inclusive(140),
     );
     line(v, e, d, 2, [0, 0, 0, 0], [9, 9, 0, 0], none(), both(15));
+    strict(v, e, d, 2, [0, 0, 0, 0], [9, 9, 0, 0], none(), both(15));
+    strict(v, e, d, 1, [0, 0, 0, 0], [9, 0, 0, 0], both(15), both(40));
     line(
         v,
         e,

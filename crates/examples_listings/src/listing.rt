@@ -3,6 +3,7 @@ ghost use Prim.Native.Nat.{_≤_};
 use bounds::Bound;
 use bounds::BoundaryType;
 use bounds::Bounds;
+use bounds::Mode;
 use loftsplice::listing::list;
 use shown::text;
 
@@ -84,12 +85,24 @@ fn into(
     steps: &[i16],
     from: &[u64],
     to: &[u64],
+    mode: Mode,
     lower: Bounds,
     upper: Bounds,
     out: &mut [i64],
     counts: &mut [u64],
 ) {
-    shown::listed(list(starts, ends, steps, from, to, lower, upper, out, counts));
+    shown::listed(list(
+        starts,
+        ends,
+        steps,
+        from,
+        to,
+        mode,
+        lower,
+        upper,
+        out,
+        counts,
+    ));
     text(b" |");
     values(out);
     text(b" |");
@@ -98,7 +111,7 @@ fn into(
 }
 
 // The first n of the starts and the first m of the ends are windows; room for so many values of 16 and so many counts of 8.
-pub(crate) fn within(
+fn within_by(
     starts: &[i64],
     ends: &[u64],
     steps: &[i16],
@@ -106,6 +119,7 @@ pub(crate) fn within(
     m: usize,
     from: [u64; 4],
     to: [u64; 4],
+    mode: Mode,
     lower: Bounds,
     upper: Bounds,
     room: usize,
@@ -121,10 +135,74 @@ pub(crate) fn within(
         steps,
         &from[..n],
         &to[..m],
+        mode,
         lower,
         upper,
         &mut out[..room],
         &mut counts[..places],
+    );
+}
+
+// Where the inclusive bound wins.
+pub(crate) fn within(
+    starts: &[i64],
+    ends: &[u64],
+    steps: &[i16],
+    n: usize,
+    m: usize,
+    from: [u64; 4],
+    to: [u64; 4],
+    lower: Bounds,
+    upper: Bounds,
+    room: usize,
+    places: usize,
+)
+    requires { ⌜ (n ≤ 4) × (m ≤ 4) × (room ≤ 16) × (places ≤ 8) ⌝ }
+{
+    let mode = Mode::InclusiveWins;
+    within_by(
+        starts,
+        ends,
+        steps,
+        n,
+        m,
+        from,
+        to,
+        mode,
+        lower,
+        upper,
+        room,
+        places,
+    );
+}
+
+// Where the exclusive bound wins, with room for all.
+pub(crate) fn strict(
+    starts: &[i64],
+    ends: &[u64],
+    steps: &[i16],
+    n: usize,
+    from: [u64; 4],
+    to: [u64; 4],
+    lower: Bounds,
+    upper: Bounds,
+)
+    requires { ⌜ n ≤ 4 ⌝ }
+{
+    let mode = Mode::ExclusiveWins;
+    within_by(
+        starts,
+        ends,
+        steps,
+        n,
+        n,
+        from,
+        to,
+        mode,
+        lower,
+        upper,
+        16,
+        8,
     );
 }
 
@@ -158,6 +236,7 @@ pub(crate) fn many(starts: &[i64], ends: &[u64], steps: &[i16], n: usize, end: u
         steps,
         &from[..n],
         &to[..n],
+        Mode::InclusiveWins,
         none(),
         none(),
         &mut out,

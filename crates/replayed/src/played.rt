@@ -5,6 +5,7 @@ use bounds::Bounds;
 use bounds::Input;
 use bounds::Inputs;
 use bounds::Limit;
+use bounds::Mode;
 use bounds::Variable;
 use bounds::Variables;
 use filter_interval::Filter;
@@ -208,15 +209,17 @@ pub fn i2(one: Input, two: Input) -> Inputs {
     Inputs { items, count: 2 }
 }
 
-// A new filter over the scan. None here has too many bounds; one that has would show by the word.
+// A new filter over the scan, in the mode that the Rust has. None here has too many bounds; one that has would show by the word.
 pub fn fnew(s: Scan, lower: Bounds, upper: Bounds) -> Filter {
-    match Filter::new(s, lower, upper) {
+    let mode = Mode::InclusiveWins;
+    match Filter::new(s, mode, lower, upper) {
         Fitted::Ready(f) => filter(f),
         Fitted::Refused(why) => {
             shown::refused(why);
             text(b"\n");
             Filter {
                 scan: s,
+                mode,
                 lower: Limit::Free,
                 upper: Limit::Free,
                 state: FilterState::After,

@@ -1,9 +1,9 @@
--- `examples_listings::listing::within` lends parts that are there. Assumes nothing.
+-- `examples_listings::listing::within_by` lends parts that are there. Assumes nothing.
 use native.Mathlib.Omega.{arith}
 use lib.ListN.{length-take}
 use borrow.Author.Needs.{needs}
-use Rattle.examples_listings.proofs.listing.within.Statement.{statement}
-use Rattle.examples_listings.proofs.listing.within.Tie as tie
+use Rattle.examples_listings.proofs.listing.within_by.Statement.{statement}
+use Rattle.examples_listings.proofs.listing.within_by.Tie as tie
 
 array-share-prefix-from : tie.Need-array-share-prefix-from
 array-share-prefix-from c = search needs
@@ -35,8 +35,8 @@ into-requires c κs = search needs
 returns : tie.Need-returns
 returns c = search needs
 
-pub within-spec : {M : Type 1} → statement M
-within-spec =
+pub within-by-spec : {M : Type 1} → statement M
+within-by-spec =
     tie.close
     (tie.spec
     array-share-prefix-from
