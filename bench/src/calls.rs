@@ -164,7 +164,7 @@ fn filter_next(clock: &mut Clock, runs: &Runs) {
     let column = runs.column();
     let (low, high) = (runs.at(1), runs.at(runs.len() - 2));
     let kind = [raw::INCLUSIVE as u8];
-    let start = raw::filter_new(fresh(runs), &[low], &kind, &[high], &kind).filter;
+    let start = raw::filter_new(fresh(runs), raw::INCLUSIVE_WINS, &[low], &kind, &[high], &kind).filter;
     let mut ours = start;
     let cells = [(); 2].map(|()| ColumnScanCell::from(ColumnScanRle::new(&column)));
     let [mut theirs, mut bare] = [&cells[0], &cells[1]].map(|cell| {

@@ -54,7 +54,7 @@ fn rise(clock: &mut Clock, runs: u64, target: Option<f64>) {
     let first_of_last = ends[ends.len() - 2];
     let (mut from, mut to) = (vec![0; 256], vec![first_of_last + 1; 256]);
     (from[255], to[255]) = (all - 2, all);
-    let port = |to: &[u64]| raw::list(starts, ends, steps, &from, to, &[], &[], &[], &[], &mut [], &mut []).refusal;
+    let port = |to: &[u64]| raw::list(starts, ends, steps, &from, to, raw::INCLUSIVE_WINS, &[], &[], &[], &[], &mut [], &mut []).refusal;
     let rust = |to: &[u64]| match plain::check(starts, ends, steps) {
         0 if from.iter().zip(to).all(|(&from, &to)| plain::rises(black_box(starts), ends, steps, from, to)) => 0,
         0 => 7,

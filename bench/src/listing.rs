@@ -40,7 +40,8 @@ fn job(runs: u64, elements: u64, windows: u64) -> Job {
 fn port(job: &Job, out: &mut [i64], counts: &mut [u64]) -> u64 {
     let Runs { starts, ends, steps } = &job.runs;
     let (inclusive, exclusive) = ([raw::INCLUSIVE as u8], [raw::EXCLUSIVE as u8]);
-    let listed = raw::list(starts, ends, steps, &job.from, &job.to, &[job.low], &inclusive, &[job.high], &exclusive, out, counts);
+    let mode = raw::INCLUSIVE_WINS;
+    let listed = raw::list(starts, ends, steps, &job.from, &job.to, mode, &[job.low], &inclusive, &[job.high], &exclusive, out, counts);
     assert_eq!(listed.refusal, 0);
     listed.sum
 }
