@@ -54,7 +54,7 @@ pub struct Bench<'a> {
 pub struct Sides<'a> {
     pub model: model::Session<'a>,
     pub port: port::Session,
-    /// False once the Rust has panicked, or where it never played.
+    /// False once the Rust has panicked or a filter was made in a mode that it does not have, or where it never played.
     pub alive: bool,
 }
 
@@ -235,6 +235,7 @@ fn step<'a>(
     let mut carried = m.scan.value;
     tally.calls += 3 + u64::from(sifted.is_some());
     tally.refused += u64::from(refused);
+    sides.alive &= m.filter.is_none_or(|f| f.wins == Wins::Inclusive);
 
     if port::PRESENT {
         let (runs, desk) = (bench.column.runs, &mut bench.desk);
@@ -389,7 +390,7 @@ pub fn rust_alone(bench: &mut Bench, call: &Call, said: &Said) -> Option<Result<
             Said::Place(run, offset, *follows)
         })),
         Call::Element(i) => Some(caught(|| Said::Value(column.get(*i)))),
-        Call::List(l) => {
+        Call::List(l) if l.wins == Wins::Inclusive => {
             let lower = l.lower.iter().max();
             let far = |start, end| lower.is_some_and(|b| bench.column.overflows(&Scan::fresh(start, end), b.value));
             if l.from.iter().zip(&l.to).any(|(&s, &e)| far(s, e)) {
@@ -412,7 +413,7 @@ fn listed(mut session: rust::Session, l: &Listing) -> Said {
     let (mut counts, mut out) = (Vec::new(), Vec::new());
     for (&start, &end) in l.from.iter().zip(&l.to) {
         session.restart(start, end);
-        session.call(&Call::FilterNew(l.lower.clone(), l.upper.clone()));
+        session.call(&Call::FilterNew(l.wins, l.lower.clone(), l.upper.clone()));
         let before = out.len();
         let next = Call::FilterNext(Lists::default());
         while let Said::Value(v) = session.call(&next) {
@@ -423,16 +424,17 @@ fn listed(mut session: rust::Session, l: &Listing) -> Said {
     Said::Listed { sum: out.len() as u64, counts, out }
 }
 
-/// Each call from the same scan put together by hand, a filter call from a filter without constant bounds, Before. The Rust has no such scans.
-pub fn by_hand(bench: &mut Bench, scan: Scan, calls: &[Call], tally: &mut Tally) -> Vec<(Said, Scan, Option<model::Sieve>)> {
+/// Each call from the same scan put together by hand, a filter call from a filter without constant bounds in this mode and state. The Rust has no such
+/// scans.
+pub fn by_hand(bench: &mut Bench, scan: Scan, (wins, mode): (Wins, Mode), calls: &[Call], tally: &mut Tally) -> Vec<(Said, Scan, Option<model::Sieve>)> {
     bench.trail.clear();
-    bench.trail.push(Call::Set(scan));
+    bench.trail.extend([Call::Set(scan), Call::FilterSet(wins, mode)]);
     tally.sequences += 1;
     let each = |call: &Call| {
-        let filter = call.is_filter().then_some(model::Sieve::OPEN);
+        let filter = call.is_filter().then_some(model::Sieve { wins, mode, ..model::Sieve::OPEN });
         let model = model::Session { scan, filter, ..model::Session::new(bench.column) };
         let port = port::Session::over(scan);
-        let port = if call.is_filter() { port.open() } else { port };
+        let port = if call.is_filter() { port.open(wins, mode) } else { port };
         let mut sides = Sides { model, port, alive: false };
         let said = step(bench, &mut sides, &mut None, None, call, tally);
         (said, sides.model.scan, sides.model.filter)

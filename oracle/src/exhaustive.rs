@@ -3,6 +3,8 @@ use crate::calls::*;
 use crate::compare::{Bench, Tally, alone, by_hand, sequence, tree};
 use crate::model;
 
+const BOTH: [Wins; 2] = [Wins::Inclusive, Wins::Exclusive];
+
 /// How far to go.
 #[derive(Clone, Copy)]
 pub struct Level {
@@ -119,7 +121,7 @@ fn scans_by_hand(bench: &mut Bench, length: u64, tally: &mut Tally) {
                 let others = [element.map_or(Some(5), |_| None), Some(element.unwrap_or(5) + 1)];
                 let others = if end == length { &others[..] } else { &[] };
                 for value in std::iter::once(&element).chain(others).copied() {
-                    by_hand(bench, Scan { start, end, state, value }, &calls, tally);
+                    by_hand(bench, Scan { start, end, state, value }, (Wins::Inclusive, Mode::Before), &calls, tally);
                 }
             }
         }
@@ -138,12 +140,15 @@ pub fn limits(tally: &mut Tally) {
                 let list = |there: bool| if there { named.clone() } else { vec![] };
                 let bounds = |there: bool| if there { given.clone() } else { vec![] };
                 let lists = Lists { lower: list(lower), upper: list(upper), inputs: vec![Some(15); inputs] };
-                let mut calls = vec![Call::New, Call::FilterNew(vec![], vec![]), Call::FilterNew(bounds(lower), bounds(upper))];
-                for target in [15, 300] {
-                    calls.extend([Call::FilterNext(lists.clone()), Call::FilterSeek(target, lists.clone())]);
+                for wins in BOTH {
+                    let made = Call::FilterNew(wins, bounds(lower), bounds(upper));
+                    let mut calls = vec![Call::New, Call::FilterNew(Wins::Inclusive, vec![], vec![]), made];
+                    for target in [15, 300] {
+                        calls.extend([Call::FilterNext(lists.clone()), Call::FilterSeek(target, lists.clone())]);
+                    }
+                    calls.extend([Call::FilterReset, Call::FilterNext(Lists::default()), Call::FilterNext(lists.clone())]);
+                    sequence(&mut bench, &calls, tally);
                 }
-                calls.extend([Call::FilterReset, Call::FilterNext(Lists::default()), Call::FilterNext(lists.clone())]);
-                sequence(&mut bench, &calls, tally);
             }
         }
     }
@@ -192,7 +197,7 @@ pub fn far_seeks(runs: &Runs, tally: &mut Tally) {
             tree(&mut bench, (start, end), &[], &alphabet, 2, tally);
             for &value in &targets {
                 let lower = vec![Bound { value, exclusive: value % 2 == 0 }];
-                let before = [Call::FilterNew(lower, vec![])];
+                let before = [Call::FilterNew(Wins::Inclusive, lower, vec![])];
                 let none = Lists::default();
                 let calls = [Call::FilterNext(none.clone()), Call::FilterSeek(-1, none.clone()), Call::FilterSeek(i64::MAX, none)];
                 tree(&mut bench, (start, end), &before, &calls, 2, tally);
@@ -254,18 +259,20 @@ fn constants(bench: &mut Bench, window: (u64, u64), stood: &[Call], values: &[i6
     for lower in bounds(values) {
         for upper in bounds(values) {
             let mut before = stood.to_vec();
-            before.push(Call::FilterNew(lower.clone(), upper));
+            before.push(Call::FilterNew(Wins::Inclusive, lower.clone(), upper));
             tree(bench, window, &before, &alphabet, depth, tally);
         }
     }
-    // The same value both ways, and lists in every order.
+    // The same value both ways, and lists in every order, in both modes.
     let v = values[values.len() / 2];
     let two = |a: bool, b: bool| vec![Bound { value: v, exclusive: a }, Bound { value: v, exclusive: b }];
     for list in [two(false, true), two(true, false), two(true, true)] {
         for pair in [(list.clone(), vec![]), (vec![], list.clone()), (list.clone(), list.clone())] {
-            let mut before = stood.to_vec();
-            before.push(Call::FilterNew(pair.0, pair.1));
-            tree(bench, window, &before, &alphabet, depth, tally);
+            for wins in BOTH {
+                let mut before = stood.to_vec();
+                before.push(Call::FilterNew(wins, pair.0.clone(), pair.1.clone()));
+                tree(bench, window, &before, &alphabet, depth, tally);
+            }
         }
     }
 }
@@ -294,9 +301,13 @@ fn variables(bench: &mut Bench, window: (u64, u64), stood: &[Call], values: &[i6
         ];
         for (lower, upper) in [(vec![], vec![]), (vec![folded[i % 2]], vec![]), (vec![], vec![folded[i % 2]])] {
             let mut before = stood.to_vec();
-            before.push(Call::FilterNew(lower, upper));
+            before.push(Call::FilterNew(Wins::Inclusive, lower, upper));
             tree(bench, window, &before, &alphabet, depth, tally);
         }
+        // A constant bound beside a variable one, in the other mode.
+        let mut before = stood.to_vec();
+        before.push(Call::FilterNew(Wins::Exclusive, vec![], vec![folded[i % 2]]));
+        tree(bench, window, &before, &alphabet, depth.min(2), tally);
     }
 }
 
@@ -315,7 +326,14 @@ pub fn listings(runs: &Runs, tally: &mut Tally) {
                 let upper = bounds(&some).swap_remove(i % (2 * some.len() + 1));
                 for (room, counts) in [(2 * length as usize, 2), (length as usize, 3), (1, 2), (40, 1)] {
                     let (from, to) = (vec![one.0, two.0], vec![one.1, two.1]);
-                    let listing = Listing { from, to, lower: lower.clone(), upper: upper.clone(), room, counts };
+                    let listing = Listing { from, to, lower: lower.clone(), upper: upper.clone(), room, counts, ..Listing::default() };
+                    alone(&mut bench, &Call::List(listing), tally);
+                }
+                // The last of the upper bounds both ways, in both modes.
+                let both = upper.iter().flat_map(|b| [*b, Bound { value: b.value, exclusive: !b.exclusive }]).collect::<Vec<_>>();
+                for wins in BOTH {
+                    let (from, to) = (vec![one.0, two.0], vec![one.1, two.1]);
+                    let listing = Listing { from, to, wins, lower: lower.clone(), upper: both.clone(), room: 2 * length as usize, counts: 2 };
                     alone(&mut bench, &Call::List(listing), tally);
                 }
             }

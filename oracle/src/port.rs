@@ -61,6 +61,13 @@ impl Desk {
     }
 }
 
+fn number(wins: Wins) -> u32 {
+    match wins {
+        Wins::Inclusive => raw::INCLUSIVE_WINS,
+        Wins::Exclusive => raw::EXCLUSIVE_WINS,
+    }
+}
+
 fn kind(exclusive: bool) -> u8 {
     (if exclusive { raw::EXCLUSIVE } else { raw::INCLUSIVE }) as u8
 }
@@ -77,10 +84,16 @@ impl Session {
         Session { scan: raw::Scan { start: scan.start, end: scan.end, index, value, state, found }, filter: None }
     }
 
-    /// With a filter without constant bounds, Before.
-    pub fn open(self) -> Session {
+    /// With a filter without constant bounds, in this mode and state.
+    pub fn open(self, wins: Wins, mode: Mode) -> Session {
         let free = raw::Limit { value: 0, kind: raw::FREE };
-        let filter = raw::Filter { scan: self.scan, lower: free, upper: free, kept: free, state: raw::BEFORE };
+        let (state, kept) = match mode {
+            Mode::Before => (raw::BEFORE, free),
+            Mode::Within(None) => (raw::WITHIN, free),
+            Mode::Within(Some(b)) => (raw::WITHIN, raw::Limit { value: b.value, kind: u32::from(kind(b.exclusive)) }),
+            Mode::After => (raw::AFTER, free),
+        };
+        let filter = raw::Filter { scan: self.scan, lower: free, upper: free, kept, state, mode: number(wins) };
         Session { filter: Some(filter), ..self }
     }
 
@@ -112,7 +125,12 @@ impl Session {
                 raw::AFTER => Mode::After,
                 other => panic!("a filter's state {other}"),
             };
-            Sieve { lower: limit(f.lower), upper: limit(f.upper), mode }
+            let wins = match f.mode {
+                raw::INCLUSIVE_WINS => Wins::Inclusive,
+                raw::EXCLUSIVE_WINS => Wins::Exclusive,
+                other => panic!("a filter's mode {other}"),
+            };
+            Sieve { lower: limit(f.lower), upper: limit(f.upper), wins, mode }
         })
     }
 
@@ -143,10 +161,10 @@ impl Session {
             }
             Call::Reset => done(self.moved(raw::scan_reset(scan, starts, ends, steps))),
             Call::Narrow(start, end) => done(self.moved(raw::scan_narrow(scan, starts, ends, steps, *start, *end))),
-            Call::FilterNew(lower, upper) => {
+            Call::FilterNew(wins, lower, upper) => {
                 desk.constants(0, lower);
                 desk.constants(1, upper);
-                let made = raw::filter_new(scan, &desk.numbers[0], &desk.kinds[0], &desk.numbers[1], &desk.kinds[1]);
+                let made = raw::filter_new(scan, number(*wins), &desk.numbers[0], &desk.kinds[0], &desk.numbers[1], &desk.kinds[1]);
                 if made.refusal == 0 {
                     self.filter = Some(made.filter);
                     return Said::Ok;
@@ -169,6 +187,10 @@ impl Session {
             }
             Call::Set(scan) => {
                 *self = Session::over(*scan);
+                Said::Ok
+            }
+            Call::FilterSet(wins, mode) => {
+                *self = self.open(*wins, *mode);
                 Said::Ok
             }
             Call::Check => checked(starts, ends, steps),
@@ -257,7 +279,7 @@ fn listed(runs: &Runs, l: &Listing, desk: &mut Desk) -> Said {
     let mut counts = vec![COUNT; l.counts];
     let (values, kinds) = (&desk.numbers, &desk.kinds);
     let answer = raw::list(
-        &runs.starts, &runs.ends, &runs.steps, &l.from, &l.to, &values[0], &kinds[0], &values[1], &kinds[1], &mut out, &mut counts,
+        &runs.starts, &runs.ends, &runs.steps, &l.from, &l.to, number(l.wins), &values[0], &kinds[0], &values[1], &kinds[1], &mut out, &mut counts,
     );
     let (filled, windows) = if answer.refusal == 0 { (answer.sum as usize, l.from.len()) } else { (0, 0) };
     untouched(&out[filled..], OUT);

@@ -1,5 +1,5 @@
 //! In place of port.rs where the feature `port` is off: the same words, and no call is brought here (`PRESENT` is asked first).
-use crate::calls::{Call, Runs, Said, Scan};
+use crate::calls::{Call, Mode, Runs, Said, Scan, Wins};
 use crate::model::Sieve;
 
 pub const PRESENT: bool = false;
@@ -18,7 +18,7 @@ impl Session {
     pub fn over(_: Scan) -> Session {
         Session
     }
-    pub fn open(self) -> Session {
+    pub fn open(self, _: Wins, _: Mode) -> Session {
         self
     }
     pub fn scan(&self) -> Scan {

@@ -164,7 +164,7 @@ fn call(d: &mut Dice, c: &model::Column, values: &[i64], filter: bool) -> Call {
         20..=22 => Call::FilterSeek(value(d, c), lists(d, values)),
         23 => Call::FilterReset,
         24 => Call::FilterCurrent,
-        _ => Call::FilterNew(bounds(d, 2, |d| value(d, c)), bounds(d, 2, |d| value(d, c))),
+        _ => Call::FilterNew(Wins::Inclusive, bounds(d, 2, |d| value(d, c)), bounds(d, 2, |d| value(d, c))),
     }
 }
 
@@ -189,7 +189,7 @@ pub fn calls_of(d: &mut Dice, c: &model::Column, values: &[i64], count: u64, kin
     if kind != "scan" {
         // One that is not refused, so that there is a filter.
         let some = |d: &mut Dice| (0..d.below(3)).map(|_| Bound { value: value(d, c), exclusive: d.once_in(2) }).collect();
-        calls.push(Call::FilterNew(some(d), some(d)));
+        calls.push(Call::FilterNew(Wins::Inclusive, some(d), some(d)));
         for _ in 0..d.below(count) {
             let next = call(d, c, values, true);
             if kind == "mixed" || next.is_filter() {
@@ -198,6 +198,43 @@ pub fn calls_of(d: &mut Dice, c: &model::Column, values: &[i64], count: u64, kin
         }
     }
     calls
+}
+
+/// A bound of the list once more, as the other kind: so there is a tie.
+fn tied<V: Copy>(d: &mut Dice, list: &mut Vec<Bound<V>>) {
+    if !list.is_empty() && list.len() < 16 {
+        let Bound { value, exclusive } = d.pick(list);
+        list.insert(d.below(list.len() as u64 + 1) as usize, Bound { value, exclusive: !exclusive });
+    }
+}
+
+/// Ties in the upper bounds of every second call, and in the lower bounds of some. With `strict` the filters are made in that mode.
+pub fn with_ties(d: &mut Dice, calls: &mut [Call], strict: bool) {
+    for call in calls {
+        let (lower, upper) = (d.once_in(4), d.once_in(2));
+        match call {
+            Call::FilterNew(wins, lows, ups) => {
+                if strict {
+                    *wins = Wins::Exclusive;
+                }
+                if lower {
+                    tied(d, lows);
+                }
+                if upper {
+                    tied(d, ups);
+                }
+            }
+            Call::FilterNext(l) | Call::FilterSeek(_, l) => {
+                if lower {
+                    tied(d, &mut l.lower);
+                }
+                if upper {
+                    tied(d, &mut l.upper);
+                }
+            }
+            _ => {}
+        }
+    }
 }
 
 /// Check, places, elements and steps.
@@ -255,17 +292,25 @@ pub fn round(d: &mut Dice, most: u64, tally: &mut Tally) {
             return;
         }
     }
-    let (scan, calls) = hand_calls(d, &c, &values);
-    by_hand(&mut bench, scan, &calls, tally);
-    for _ in 0..2 {
-        let listing = listing(d, &c);
+    for strict in [true, true, true, false] {
+        let mut calls = calls_of(d, &c, &values, if big { 20 } else { 40 }, "mixed");
+        with_ties(d, &mut calls, strict);
+        sequence(&mut bench, &calls, tally);
+        if tally.full() {
+            return;
+        }
+    }
+    let (scan, filter, calls) = hand_calls(d, &c, &values);
+    by_hand(&mut bench, scan, filter, &calls, tally);
+    for wins in [Wins::Inclusive, Wins::Inclusive, Wins::Exclusive] {
+        let listing = listing(d, &c, wins);
         alone(&mut bench, &listing, tally);
     }
     records(d, &mut bench, runs.ends.len(), tally);
 }
 
-/// A scan put together by hand, mostly one that no call gives, and calls to start from it.
-pub fn hand_calls(d: &mut Dice, c: &model::Column, values: &[i64]) -> (Scan, Vec<Call>) {
+/// A scan put together by hand, mostly one that no call gives, a filter's mode and state, and calls to start from them.
+pub fn hand_calls(d: &mut Dice, c: &model::Column, values: &[i64]) -> (Scan, (Wins, Mode), Vec<Call>) {
     let (start, end) = window(d, c);
     let state = match d.below(6) {
         0 => State::Fresh,
@@ -275,7 +320,14 @@ pub fn hand_calls(d: &mut Dice, c: &model::Column, values: &[i64]) -> (Scan, Vec
         4 => State::At(end),
         _ => State::At(start),
     };
-    let calls: Vec<Call> = (0..8).map(|_| call(d, c, values, true)).filter(|c| !matches!(c, Call::FilterNew(..))).collect();
+    let mut calls: Vec<Call> = (0..8).map(|_| call(d, c, values, true)).filter(|c| !matches!(c, Call::FilterNew(..))).collect();
+    with_ties(d, &mut calls, false);
+    let mode = match d.below(8) {
+        0 => Mode::After,
+        1 => Mode::Within(None),
+        2 | 3 => Mode::Within(Some(Bound { value: value(d, c), exclusive: d.once_in(2) })),
+        _ => Mode::Before,
+    };
     let element = match state {
         State::At(i) if c.check().is_ok_and(|length| i < length) => Some(c.at(i)),
         State::At(_) => Some(value(d, c)),
@@ -287,16 +339,16 @@ pub fn hand_calls(d: &mut Dice, c: &model::Column, values: &[i64]) -> (Scan, Vec
         1 | 2 => Some(value(d, c)),
         _ => element,
     };
-    (Scan { start, end, state, value }, calls)
+    (Scan { start, end, state, value }, (d.pick(&[Wins::Inclusive, Wins::Exclusive]), mode), calls)
 }
 
 /// A listing of windows that mostly rise, with room that is short, right or long; what it needs is asked of the model.
-pub fn listing(d: &mut Dice, c: &model::Column) -> Call {
+pub fn listing(d: &mut Dice, c: &model::Column, wins: Wins) -> Call {
     let n = match d.below(20) {
         0 => d.pick(&[255, 256, 257]),
         _ => d.below(5),
     };
-    let mut l = Listing::default();
+    let mut l = Listing { wins, ..Listing::default() };
     for _ in 0..n {
         for _ in 0..20 {
             let (start, end) = window(d, c);
@@ -313,6 +365,9 @@ pub fn listing(d: &mut Dice, c: &model::Column) -> Call {
     }
     l.lower = bounds(d, 2, |d| value(d, c));
     l.upper = bounds(d, 2, |d| value(d, c));
+    if d.once_in(3) {
+        tied(d, &mut l.upper);
+    }
     (l.room, l.counts) = (1_000_000, l.from.len());
     let needed = match model::Session::new(c).call(&Call::List(l.clone())) {
         Said::Listed { sum, .. } => sum as usize,

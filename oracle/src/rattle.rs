@@ -118,7 +118,7 @@ fn case(d: &mut Dice, kind: &str) -> Option<(Runs, Vec<Call>, String)> {
 /// Lists of up to two.
 fn short(call: &Call) -> bool {
     match call {
-        Call::FilterNew(lower, upper) => lower.len() <= 2 && upper.len() <= 2,
+        Call::FilterNew(_, lower, upper) => lower.len() <= 2 && upper.len() <= 2,
         Call::FilterNext(l) | Call::FilterSeek(_, l) => l.lower.len() <= 2 && l.upper.len() <= 2 && l.inputs.len() <= 2,
         _ => true,
     }
@@ -188,7 +188,7 @@ fn spelt(call: &Call, later: &[Call]) -> String {
         Call::Narrow(a, b) => keep("s", format!("narrow(s, v, e, d, {a}, {b})")),
         Call::Current => "current(s)".into(),
         Call::Pos => "pos(s, v, e, d)".into(),
-        Call::FilterNew(l, u) => {
+        Call::FilterNew(_, l, u) => {
             let (l, u) = (list("b", l.iter().map(bound).collect()), list("b", u.iter().map(bound).collect()));
             keep("f", format!("fnew(s, {l}, {u})"))
         }

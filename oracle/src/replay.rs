@@ -32,9 +32,8 @@ fn got(said: Said, scan: Scan, sieve: Option<Sieve>) -> Got {
 pub fn play(case: &Case, counts: &mut Counts, tell: &mut impl FnMut(String)) {
     counts.cases += 1;
     let column = model::Column::new(&case.runs);
-    let raw = case.kind == "raw";
-    let mut by_model = by_model(case, &column, raw);
-    let mut by_port = if port::PRESENT { by_port(case, &column, raw) } else { Vec::new() };
+    let mut by_model = by_model(case, &column);
+    let mut by_port = if port::PRESENT { by_port(case, &column) } else { Vec::new() };
     let mut by_rust = if case.both && rust::PRESENT { by_rust(case, &column, &by_model) } else { Vec::new() };
     by_port.resize_with(case.lines.len(), || None);
     by_rust.resize_with(case.lines.len(), || None);
@@ -89,17 +88,36 @@ fn agrees(expected: &Expected, got: &Got, rust: bool) -> bool {
 
 type Answers = Vec<Option<Result<Got, String>>>;
 
-fn by_model<'a>(case: &'a Case, column: &'a model::Column<'a>, raw: bool) -> Answers {
-    let mut session = model::Session::new(column);
-    let mut set = session.scan;
-    let each = |line: &crate::corpus::Line| {
-        if let (Call::Set(scan), true) = (&line.call, raw) {
-            set = *scan;
-            return Some(Ok(Got { said: Said::Ok, scan: Some(set), mode: None }));
+/// A scan put together by hand, and the filter over it: from a `set` on every line starts from them.
+#[derive(Clone, Copy)]
+struct Hand {
+    scan: Scan,
+    wins: Wins,
+    mode: Mode,
+}
+
+impl Hand {
+    /// Takes a `set` or `fset`; whether the line is one.
+    fn took(hand: &mut Option<Hand>, call: &Call) -> bool {
+        match (call, hand.as_mut()) {
+            (Call::Set(scan), _) => *hand = Some(Hand { scan: *scan, wins: Wins::Inclusive, mode: Mode::Before }),
+            (Call::FilterSet(wins, mode), Some(h)) => (h.wins, h.mode) = (*wins, *mode),
+            _ => return false,
         }
-        if raw {
-            let filter = line.call.is_filter().then_some(Sieve::OPEN);
-            session = model::Session { scan: set, filter, ..model::Session::new(column) };
+        true
+    }
+}
+
+fn by_model<'a>(case: &'a Case, column: &'a model::Column<'a>) -> Answers {
+    let mut session = model::Session::new(column);
+    let mut hand = None;
+    let each = |line: &crate::corpus::Line| {
+        if Hand::took(&mut hand, &line.call) {
+            return Some(Ok(Got { said: Said::Ok, scan: hand.map(|h| h.scan), mode: None }));
+        }
+        if let Some(Hand { scan, wins, mode }) = hand {
+            let filter = line.call.is_filter().then_some(Sieve { wins, mode, ..Sieve::OPEN });
+            session = model::Session { scan, filter, ..model::Session::new(column) };
         }
         Some(caught(|| {
             let said = session.call(&line.call);
@@ -109,23 +127,19 @@ fn by_model<'a>(case: &'a Case, column: &'a model::Column<'a>, raw: bool) -> Ans
     case.lines.iter().map(each).collect()
 }
 
-fn by_port(case: &Case, column: &model::Column, raw: bool) -> Answers {
+fn by_port(case: &Case, column: &model::Column) -> Answers {
     let whole = Scan::fresh(0, column.check().unwrap_or(0));
     let mut session = port::Session::over(whole);
-    let mut set = whole;
+    let mut hand = None;
     let mut desk = port::Desk::default();
     let each = |line: &crate::corpus::Line| {
-        if let (Call::Set(scan), true) = (&line.call, raw) {
-            set = *scan;
+        if Hand::took(&mut hand, &line.call) || !port::has(&line.call) {
             return None;
         }
-        if !port::has(&line.call) {
-            return None;
-        }
-        if raw {
-            session = port::Session::over(set);
+        if let Some(Hand { scan, wins, mode }) = hand {
+            session = port::Session::over(scan);
             if line.call.is_filter() {
-                session = session.open();
+                session = session.open(wins, mode);
             }
         }
         Some(caught(|| {
@@ -157,7 +171,12 @@ fn by_rust(case: &Case, column: &model::Column, by_model: &Answers) -> Answers {
                 }
             };
             answers.push(match &line.call {
-                Call::Set(_) | Call::Read(..) | Call::Write(_) => None,
+                Call::Set(_) | Call::FilterSet(..) | Call::Read(..) | Call::Write(_) => None,
+                // Nor is a filter in another mode than its own: it is left out of the rest.
+                Call::FilterNew(Wins::Exclusive, ..) => {
+                    dead = true;
+                    None
+                }
                 Call::Check | Call::Place(_) | Call::Element(_) | Call::Diff(..) | Call::List(_) => {
                     let answer = crate::compare::rust_alone(&mut bench, &line.call, said);
                     answer.map(|a| a.map(|said| Got { said, scan: None, mode: None }))

@@ -119,7 +119,8 @@ impl<'a> Session<'a> {
                 self.cell.narrow(*start as usize..*end as usize);
                 Said::Ok
             }
-            Call::FilterNew(lower, upper) => {
+            // Its filter has one mode: who asks it leaves the others out.
+            Call::FilterNew(_, lower, upper) => {
                 let lists = Lists::default();
                 let made = make(self.cell, self.inputs, &lists, lower, upper);
                 self.filter = Some(Filter { made, lower: lower.clone(), upper: upper.clone(), lists, before: true });

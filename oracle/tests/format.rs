@@ -14,14 +14,26 @@ fn differences(text: &str) -> Vec<String> {
     found
 }
 
-/// P1 to P12, document 02's places, and scans that do not carry what they stand on, with every side that is there.
+/// P1 to P12, document 02's places, the cases of request 4, and scans that do not carry what they stand on, with every side that is there.
 #[test]
 fn examples_of_the_documents() {
     let cases = corpus::cases(EXAMPLES).expect("the examples");
-    assert_eq!(cases.len(), 25);
+    assert_eq!(cases.len(), 34);
     let lines: usize = cases.iter().map(|c| c.lines.len()).sum();
-    assert_eq!(lines, 116);
+    assert_eq!(lines, 186);
     assert_eq!(differences(EXAMPLES), Vec::<String>::new());
+}
+
+/// An answer without the value that the scan carries, which is read over.
+fn uncarried(answer: &str) -> String {
+    let Some((said, state)) = answer.split_once(" | ") else {
+        return answer.into();
+    };
+    let mut words: Vec<&str> = state.split(' ').collect();
+    if words.get(3).is_some_and(|w| *w == "-" || w.parse::<i64>().is_ok()) {
+        words.remove(3);
+    }
+    format!("{said} | {}", words.join(" "))
 }
 
 /// Every call and answer of the examples prints as it was read.
@@ -33,7 +45,7 @@ fn printed_as_read() {
         let expected = corpus::expected(answer).unwrap();
         let sieve = expected.mode.map(|mode| oracle::model::Sieve { mode, ..oracle::model::Sieve::OPEN });
         let state = expected.scan.map_or(String::new(), |s| corpus::after(&s, sieve.as_ref()));
-        assert_eq!(format!("{}{state}", expected.said), answer);
+        assert_eq!(format!("{}{state}", expected.said), uncarried(answer));
     }
 }
 
@@ -46,7 +58,7 @@ fn every_call_reads_back() {
         inputs: vec![Some(i64::MIN), None, Some(7)],
     };
     let scan = Scan { start: u64::MAX, end: 3, state: State::At(9), value: Some(i64::MIN) };
-    let listing = Listing { from: vec![], to: vec![1, 2], lower: vec![], upper: vec![], room: 0, counts: 5 };
+    let listing = Listing { to: vec![1, 2], counts: 5, ..Listing::default() };
     for call in [
         Call::FilterNext(lists.clone()),
         Call::FilterSeek(-5, lists),
@@ -57,12 +69,29 @@ fn every_call_reads_back() {
         Call::Set(scan),
         Call::Set(Scan { state: State::Ended, ..scan }),
         Call::Set(Scan::fresh(0, 7)),
+        Call::List(Listing { wins: Wins::Exclusive, ..listing.clone() }),
         Call::List(listing),
+        Call::FilterNew(Wins::Inclusive, vec![], vec![]),
+        Call::FilterNew(Wins::Exclusive, vec![Bound { value: i64::MIN, exclusive: true }], vec![]),
+        Call::FilterSet(Wins::Exclusive, Mode::After),
+        Call::FilterSet(Wins::Inclusive, Mode::Before),
+        Call::FilterSet(Wins::Inclusive, Mode::Within(None)),
+        Call::FilterSet(Wins::Exclusive, Mode::Within(Some(Bound { value: -3, exclusive: true }))),
         Call::Read(vec![], [1, 2, 3]),
         Call::Diff(i64::MIN, i64::MAX),
     ] {
         assert_eq!(corpus::call(&call.to_string()), Ok(call.clone()), "{call}");
     }
+}
+
+/// Lists in their short forms, and a mode that is left out.
+#[test]
+fn short_forms() {
+    let text = "case 1 short 4\nwidth i64\nstarts 7*2,1~-3*3\nends 1~1*5\nsteps 0*5\nlist - - - - 0 0 -> sum 0 counts - out -\nend\n";
+    let case = corpus::cases(text).unwrap().swap_remove(0);
+    assert_eq!((case.runs.starts, case.runs.ends), (vec![7, 7, 1, -2, -5], vec![1, 2, 3, 4, 5]));
+    assert_eq!(case.lines[0].call, Call::List(Listing::default()));
+    assert_eq!(corpus::call("fnew - i1"), corpus::call("fnew crate - i1"));
 }
 
 /// Each answer of the examples, changed, is noticed.
@@ -107,6 +136,13 @@ fn bad_files() {
         (&format!("{head}next -> v 1 | 0 1 0 1 X\nend\n"), "line 5"),
         (&format!("{head}set 0 1 0 -> ok\nend\n"), "line 5"),
         ("case 1 scan both\nstarts 1,,2\nend\n", "line 2"),
+        ("case 1 strict four\nend\n", "line 1"),
+        ("case 1 strict 4\nstarts 9223372036854775807~1*2\nend\n", "line 2"),
+        ("case 1 strict 4\nwidth i32\nend\n", "line 2"),
+        (&format!("{head}fnew loose - - -> ok\nend\n"), "line 5"),
+        (&format!("{head}fset strict B x1 -> ok\nend\n"), "line 5"),
+        (&format!("{head}fset strict W -> ok\nend\n"), "line 5"),
+        (&format!("{head}list 1 0 1 - - 1 1 -> r 5\nend\n"), "line 5"),
         (head, "ends inside a case"),
     ] {
         let error = corpus::cases(text).expect_err(text);

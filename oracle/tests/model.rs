@@ -42,10 +42,18 @@ fn listing_is_the_filter() {
         for (start, end) in (0..=length).flat_map(|e| (0..=e).map(move |s| (s, e))).filter(|&(s, e)| c.rises(s, e)) {
             for lower in (3..9).flat_map(bound) {
                 for upper in (4..12).flat_map(bound) {
-                    let l = Listing { from: vec![start], to: vec![end], lower: lower.clone(), upper: upper.clone(), room: 50, counts: 1 };
+                    let l = Listing {
+                        from: vec![start],
+                        to: vec![end],
+                        lower: lower.clone(),
+                        upper: upper.clone(),
+                        room: 50,
+                        counts: 1,
+                        ..Listing::default()
+                    };
                     let mut s = Session::new(&c);
                     s.call(&Call::Narrow(start, end));
-                    s.call(&Call::FilterNew(lower.clone(), upper));
+                    s.call(&Call::FilterNew(Wins::Inclusive, lower.clone(), upper));
                     let mut out = vec![];
                     while let Said::Value(v) = s.call(&Call::FilterNext(Lists::default())) {
                         out.push(v);
@@ -60,13 +68,48 @@ fn listing_is_the_filter() {
     assert!(tried > 10_000, "{tried}");
 }
 
+/// In strict mode an element is given exactly if it meets every bound, each one for itself, constant or variable; in the other mode also where it is the
+/// least upper value and given both ways.
+#[test]
+fn strict_means_all() {
+    let meets = |v: i64, u: &Constant| v < u.value || (v == u.value && !u.exclusive);
+    let (mut tried, mut ties) = (0, 0);
+    for runs in small().into_iter().step_by(2) {
+        let c = Column::new(&runs);
+        let length = c.check().unwrap();
+        if !c.rises(0, length) {
+            continue;
+        }
+        let elements: Vec<i64> = (0..length).map(|i| c.at(i)).collect();
+        let all: Vec<Constant> = (4..9).flat_map(|value| [false, true].map(|exclusive| Bound { value, exclusive })).collect();
+        for three in all.iter().flat_map(|a| all.iter().flat_map(|b| all.iter().map(|c| [*a, *b, *c]))) {
+            let lists = Lists { upper: vec![Bound { value: 0, exclusive: three[2].exclusive }], inputs: vec![Some(three[2].value)], ..Lists::default() };
+            let tie = |v: i64| three.iter().all(|u| u.value >= v) && [false, true].iter().all(|k| three.contains(&Bound { value: v, exclusive: *k }));
+            for wins in [Wins::Inclusive, Wins::Exclusive] {
+                let mut s = Session::new(&c);
+                s.call(&Call::FilterNew(wins, vec![], three[..2].to_vec()));
+                let mut given = vec![];
+                while let Said::Value(v) = s.call(&Call::FilterNext(lists.clone())) {
+                    given.push(v);
+                }
+                let through = |v: i64| three.iter().all(|u| meets(v, u)) || (wins == Wins::Inclusive && tie(v));
+                let wanted: Vec<i64> = elements.iter().copied().filter(|&v| through(v)).collect();
+                assert_eq!(given, wanted, "{runs:?} {three:?} {wins:?}");
+                tried += 1;
+                ties += u32::from(elements.iter().any(|&v| tie(v)));
+            }
+        }
+    }
+    assert!(tried > 10_000 && ties > 1_000, "{tried}, {ties}");
+}
+
 /// The order of refusals: an input that could be refused by several numbers is refused by the one that document 01 tries first.
 #[test]
 fn order_of_refusals() {
     let said = |runs: &Runs, call: Call| Session::new(&Column::new(runs)).call(&call);
     let d = Runs::of(&[(10, -5, 2), (6, 1, 3)]);
     let long = |n| vec![Bound { value: 1, exclusive: false }; n];
-    let list = |from: Vec<u64>, to: Vec<u64>, n: usize, room| Call::List(Listing { from, to, lower: long(n), upper: vec![], room, counts: 0 });
+    let list = |from: Vec<u64>, to: Vec<u64>, n: usize, room| Call::List(Listing { from, to, lower: long(n), room, ..Listing::default() });
     // 8 before 5 before 7 before 10
     assert_eq!(said(&d, list(vec![0, 0], vec![9], 1, 0)), Said::Refused(8));
     assert_eq!(said(&d, list(vec![0, 0], vec![5, 9], 17, 0)), Said::Refused(8));

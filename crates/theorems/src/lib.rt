@@ -43,7 +43,6 @@
 //   EmptyColumn   the empty column, call by call
 //   Columns       each index lies in one run, every element fits, short windows rise
 //   Places        what a place tells of the elements that follow; a walk from place to place meets each run once and ends at the length
-//   Bounds        the folded bound is met exactly if every bound is, but for a tie
 //   Bounds        the folded bound is met exactly if every bound is, but for a tie of upper bounds where the inclusive one wins
 //
 // What stands behind them, proofs/:

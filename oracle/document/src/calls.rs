@@ -41,6 +41,14 @@ pub enum Mode {
     After,
 }
 
+/// Which of two upper bounds of one value wins: the mode of request 4, which is chosen when a filter is made. A corpus calls them `crate` and `strict`.
+#[derive(Clone, Copy, Debug, Default, PartialEq, Eq)]
+pub enum Wins {
+    #[default]
+    Inclusive,
+    Exclusive,
+}
+
 /// Variable bounds and the inputs' answers, handed over with a call.
 #[derive(Clone, Debug, Default, PartialEq, Eq)]
 pub struct Lists {
@@ -49,11 +57,12 @@ pub struct Lists {
     pub inputs: Vec<Option<i64>>,
 }
 
-/// A batch listing's windows and bounds, and the places of its outputs.
+/// A batch listing's windows, mode and bounds, and the places of its outputs.
 #[derive(Clone, Debug, Default, PartialEq, Eq)]
 pub struct Listing {
     pub from: Vec<u64>,
     pub to: Vec<u64>,
+    pub wins: Wins,
     pub lower: Vec<Constant>,
     pub upper: Vec<Constant>,
     pub room: usize,
@@ -69,7 +78,7 @@ pub enum Call {
     Pos,
     Reset,
     Narrow(u64, u64),
-    FilterNew(Vec<Constant>, Vec<Constant>),
+    FilterNew(Wins, Vec<Constant>, Vec<Constant>),
     FilterNext(Lists),
     FilterSeek(i64, Lists),
     FilterCurrent,
@@ -79,6 +88,7 @@ pub enum Call {
     Element(u64),
     Diff(i64, i64),
     Set(Scan),
+    FilterSet(Wins, Mode),
     List(Listing),
     Read(Vec<u8>, [usize; 3]),
     Write(usize),

@@ -1,7 +1,8 @@
-//! The text format of call sequences and answers (document CORPUS): printing, and reading any file of that format.
+//! The text format of call sequences and answers (documents CORPUS and CORPUS2): printing, and reading any file of that format. A mode that is left out
+//! is `crate`; the value that a scan carries is read over.
 use crate::calls::*;
 use crate::model::Sieve;
-use std::fmt::{Display, Write};
+use std::fmt::Display;
 use std::str::FromStr;
 
 /// One case as a file has it.
@@ -14,7 +15,7 @@ pub struct Case {
     pub lines: Vec<Line>,
 }
 
-/// One call, the line of the file that it stands on, and what the file expects; `set` may stand without an answer.
+/// One call, the line of the file that it stands on, and what the file expects; `set` and `fset` may stand without an answer.
 #[derive(Clone, Debug, PartialEq, Eq)]
 pub struct Line {
     pub at: usize,
@@ -64,6 +65,24 @@ impl Display for Scan {
     }
 }
 
+impl Display for Wins {
+    fn fmt(&self, f: &mut std::fmt::Formatter<'_>) -> std::fmt::Result {
+        f.write_str(if *self == Wins::Inclusive { "crate" } else { "strict" })
+    }
+}
+
+/// As it stands after an answer.
+impl Display for Mode {
+    fn fmt(&self, f: &mut std::fmt::Formatter<'_>) -> std::fmt::Result {
+        match self {
+            Mode::Before => f.write_str("B"),
+            Mode::After => f.write_str("A"),
+            Mode::Within(None) => f.write_str("W -"),
+            Mode::Within(Some(b)) => write!(f, "W {b}"),
+        }
+    }
+}
+
 impl Display for Lists {
     fn fmt(&self, f: &mut std::fmt::Formatter<'_>) -> std::fmt::Result {
         let inputs = self.inputs.iter().map(|i| i.map_or("?".to_string(), |v| v.to_string()));
@@ -81,7 +100,7 @@ impl Display for Call {
             Call::Pos => f.write_str("pos"),
             Call::Reset => f.write_str("reset"),
             Call::Narrow(s, e) => write!(f, "narrow {s} {e}"),
-            Call::FilterNew(l, u) => write!(f, "fnew {} {}", list(l), list(u)),
+            Call::FilterNew(wins, l, u) => write!(f, "fnew {wins} {} {}", list(l), list(u)),
             Call::FilterNext(l) => write!(f, "fnext {l}"),
             Call::FilterSeek(t, l) => write!(f, "fseek {t} {l}"),
             Call::FilterCurrent => f.write_str("fcurrent"),
@@ -91,9 +110,13 @@ impl Display for Call {
             Call::Element(i) => write!(f, "element {i}"),
             Call::Diff(p, c) => write!(f, "diff {p} {c}"),
             Call::Set(s) => write!(f, "set {s}"),
+            Call::FilterSet(wins, Mode::Within(None)) => write!(f, "fset {wins} W -"),
+            Call::FilterSet(wins, Mode::Within(Some(b))) => write!(f, "fset {wins} W {b}"),
+            Call::FilterSet(wins, mode) => write!(f, "fset {wins} {mode} -"),
             Call::List(l) => write!(
                 f,
-                "list {} {} {} {} {} {}",
+                "list {} {} {} {} {} {} {}",
+                l.wins,
                 list(&l.from),
                 list(&l.to),
                 list(&l.lower),
@@ -133,15 +156,8 @@ impl Display for Said {
 
 /// ` | <start> <end> <state> <carried>`, and the filter's mode where one is made.
 pub fn after(scan: &Scan, sieve: Option<&Sieve>) -> String {
-    let mut text = format!(" | {scan}");
-    match sieve.map(|s| s.mode) {
-        None => {}
-        Some(Mode::Before) => text.push_str(" B"),
-        Some(Mode::After) => text.push_str(" A"),
-        Some(Mode::Within(None)) => text.push_str(" W -"),
-        Some(Mode::Within(Some(b))) => write!(text, " W {b}").unwrap(),
-    }
-    text
+    let mode = sieve.map_or(String::new(), |s| format!(" {}", s.mode));
+    format!(" | {scan}{mode}")
 }
 
 /// Whether an answer to this call is followed by the scan.
@@ -149,7 +165,7 @@ pub fn has_state(call: &Call, said: &Said) -> bool {
     match call {
         Call::New => !matches!(said, Said::Refused(_)),
         Call::Check | Call::Place(_) | Call::Element(_) | Call::Diff(..) => false,
-        Call::Set(_) | Call::List(_) | Call::Read(..) | Call::Write(_) => false,
+        Call::Set(_) | Call::FilterSet(..) | Call::List(_) | Call::Read(..) | Call::Write(_) => false,
         _ => true,
     }
 }
@@ -175,6 +191,22 @@ fn number<T: FromStr>(word: &str) -> Parsed<T> {
 
 fn items<T>(word: &str, item: impl Fn(&str) -> Parsed<T>) -> Parsed<Vec<T>> {
     if word == "-" { Ok(Vec::new()) } else { word.split(',').map(item).collect() }
+}
+
+/// A list with its short forms: `v*n` is n times v, `v~d*n` the n values v, v+d, v+2d ..
+fn numbers<T: FromStr + TryFrom<i128>>(word: &str) -> Parsed<Vec<T>> {
+    let several = |item: &str| -> Parsed<Vec<T>> {
+        let Some((first, count)) = item.split_once('*') else {
+            return Ok(vec![number(item)?]);
+        };
+        let (first, by): (i128, i128) = match first.split_once('~') {
+            Some((first, by)) => (number(first)?, number(by)?),
+            None => (number(first)?, 0),
+        };
+        let one = |i: u32| T::try_from(first + by * i128::from(i)).map_err(|_| format!("'{item}' has a number that does not fit here"));
+        (0..number::<u32>(count)?).map(one).collect()
+    };
+    Ok(items(word, several)?.into_iter().flatten().collect())
 }
 
 fn bound<V: FromStr>(word: &str) -> Parsed<Bound<V>> {
@@ -209,6 +241,25 @@ fn scan([start, end, at, carried]: [&str; 4]) -> Parsed<Scan> {
     Ok(Scan { start: number(start)?, end: number(end)?, state: state(at)?, value })
 }
 
+fn wins(word: &str) -> Parsed<Wins> {
+    match word {
+        "crate" => Ok(Wins::Inclusive),
+        "strict" => Ok(Wins::Exclusive),
+        _ => Err(format!("'{word}' is no mode")),
+    }
+}
+
+/// A filter's state: `B`, `A`, or `W` and the bound that it keeps.
+fn mode(words: &[&str]) -> Parsed<Mode> {
+    Ok(match words {
+        ["B"] => Mode::Before,
+        ["A"] => Mode::After,
+        ["W", "-"] => Mode::Within(None),
+        ["W", b] => Mode::Within(Some(bound(b)?)),
+        _ => return Err(format!("'{}' is no filter's state", words.join(" "))),
+    })
+}
+
 fn lists(words: &[&str]) -> Parsed<Lists> {
     let input = |w: &str| if w == "?" { Ok(None) } else { number(w).map(Some) };
     Ok(Lists { lower: items(words[0], bound)?, upper: items(words[1], bound)?, inputs: items(words[2], input)? })
@@ -220,6 +271,12 @@ pub fn call(text: &str) -> Parsed<Call> {
     if words.first() == Some(&"read") && words.len() == 4 {
         words.insert(1, "-");
     }
+    if words.first() == Some(&"set") && words.len() == 5 && is_carried(words[4]) {
+        words.pop();
+    }
+    if matches!((words.first(), words.len()), (Some(&"fnew"), 3) | (Some(&"list"), 7)) {
+        words.insert(1, "crate");
+    }
     Ok(match words[..] {
         ["new"] => Call::New,
         ["next"] => Call::Next,
@@ -228,7 +285,7 @@ pub fn call(text: &str) -> Parsed<Call> {
         ["pos"] => Call::Pos,
         ["reset"] => Call::Reset,
         ["narrow", s, e] => Call::Narrow(number(s)?, number(e)?),
-        ["fnew", l, u] => Call::FilterNew(items(l, bound)?, items(u, bound)?),
+        ["fnew", w, l, u] => Call::FilterNew(wins(w)?, items(l, bound)?, items(u, bound)?),
         ["fnext", l, u, i] => Call::FilterNext(lists(&[l, u, i])?),
         ["fseek", t, l, u, i] => Call::FilterSeek(number(t)?, lists(&[l, u, i])?),
         ["fcurrent"] => Call::FilterCurrent,
@@ -238,9 +295,12 @@ pub fn call(text: &str) -> Parsed<Call> {
         ["element", i] => Call::Element(number(i)?),
         ["diff", p, c] => Call::Diff(number(p)?, number(c)?),
         ["set", s, e, at, v] => Call::Set(scan([s, e, at, v])?),
-        ["list", from, to, l, u, room, counts] => Call::List(Listing {
+        ["fset", w, "W", kept] => Call::FilterSet(wins(w)?, mode(&["W", kept])?),
+        ["fset", w, at, "-"] => Call::FilterSet(wins(w)?, mode(&[at])?),
+        ["list", w, from, to, l, u, room, counts] => Call::List(Listing {
             from: items(from, number)?,
             to: items(to, number)?,
+            wins: wins(w)?,
             lower: items(l, bound)?,
             upper: items(u, bound)?,
             room: number(room)?,
@@ -263,7 +323,7 @@ fn said(text: &str) -> Parsed<Said> {
         ["length", n] => Said::Length(number(n)?),
         ["p", r, k, n] => Said::Place(number(r)?, number(k)?, number(n)?),
         ["sum", n, "counts", c, "out", o] => {
-            Said::Listed { sum: number(n)?, counts: items(c, number)?, out: items(o, number)? }
+            Said::Listed { sum: number(n)?, counts: numbers(c)?, out: numbers(o)? }
         }
         ["runs", n, "used", used, "starts", s, "ends", e, "steps", t] => {
             let runs = Runs { starts: items(s, number)?, ends: items(e, number)?, steps: items(t, number)? };
@@ -289,15 +349,8 @@ pub fn expected(text: &str) -> Parsed<Expected> {
         return Ok(Expected { said: said(text)?, scan: None, mode: None });
     };
     let words: Vec<&str> = rest.split(' ').filter(|w| !w.is_empty()).collect();
-    let (&numbers, mode) = words.split_first_chunk::<4>().ok_or_else(|| format!("'{rest}' is no scan"))?;
-    let mode = match mode {
-        [] => None,
-        ["B"] => Some(Mode::Before),
-        ["A"] => Some(Mode::After),
-        ["W", "-"] => Some(Mode::Within(None)),
-        ["W", b] => Some(Mode::Within(Some(bound(b)?))),
-        _ => return Err(format!("'{rest}' has no filter's state at its end")),
-    };
+    let (&numbers, after) = words.split_first_chunk::<4>().ok_or_else(|| format!("'{rest}' is no scan"))?;
+    let mode = if after.is_empty() { None } else { Some(mode(after)?) };
     Ok(Expected { said: said(answer)?, scan: Some(scan(numbers)?), mode })
 }
 
@@ -314,14 +367,15 @@ pub fn cases(text: &str) -> Parsed<Vec<Case>> {
             (None, ("case", rest)) => open = Some(case(rest).map_err(here)?),
             (None, _) => return Err(here(format!("'{line}' stands outside a case"))),
             (Some(_), ("end", "")) => found.extend(open.take()),
-            (Some(c), ("starts", l)) => c.runs.starts = items(l, number).map_err(here)?,
-            (Some(c), ("ends", l)) => c.runs.ends = items(l, number).map_err(here)?,
-            (Some(c), ("steps", l)) => c.runs.steps = items(l, number).map_err(here)?,
+            (Some(c), ("starts", l)) => c.runs.starts = numbers(l).map_err(here)?,
+            (Some(c), ("ends", l)) => c.runs.ends = numbers(l).map_err(here)?,
+            (Some(c), ("steps", l)) => c.runs.steps = numbers(l).map_err(here)?,
+            (Some(_), ("width", "i64")) => {}
             (Some(c), _) => {
                 let (words, answer) = line.split_once(" -> ").map_or((line, None), |(w, a)| (w, Some(a)));
                 let call = call(words).map_err(here)?;
                 let expected = answer.map(expected).transpose().map_err(here)?;
-                if expected.is_none() && !matches!(call, Call::Set(_)) {
+                if expected.is_none() && !matches!(call, Call::Set(_) | Call::FilterSet(..)) {
                     return Err(here(format!("'{line}' has no answer")));
                 }
                 c.lines.push(Line { at, call, expected });
@@ -336,13 +390,16 @@ fn case(rest: &str) -> Parsed<Case> {
         return Err(format!("'case {rest}' is not number, kind and by"));
     };
     let kinds = ["scan", "filter", "mixed", "far", "column", "raw", "list", "read", "write"];
-    if !kinds.contains(&kind) {
+    // CORPUS2 has the request from which on the case holds in its place, and any word for the kind; the Rust does not play such a case.
+    let from = by.parse::<u32>().is_ok();
+    if !from && !kinds.contains(&kind) {
         return Err(format!("'{kind}' is no kind of case"));
     }
     let both = match by {
         "both" => true,
         "model" => false,
-        _ => return Err(format!("'{by}' is neither both nor model")),
+        _ if from => false,
+        _ => return Err(format!("'{by}' is neither both, model nor a request")),
     };
     Ok(Case { number: number(n)?, kind: kind.into(), both, runs: Runs::default(), lines: Vec::new() })
 }

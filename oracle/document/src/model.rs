@@ -159,7 +159,7 @@ fn check(runs: &Runs) -> Outcome<u64> {
     Ok(runs.ends.last().copied().unwrap_or(0))
 }
 
-/// A scan, and the filter over it once there is one: folded bounds and mode.
+/// A scan, and the filter over it once there is one: folded bounds, state, and which upper bound wins.
 #[derive(Clone, Copy)]
 pub struct Session<'a> {
     pub column: &'a Column<'a>,
@@ -173,12 +173,13 @@ pub struct Session<'a> {
 pub struct Sieve {
     pub lower: Option<Constant>,
     pub upper: Option<Constant>,
+    pub wins: Wins,
     pub mode: Mode,
 }
 
 impl Sieve {
-    /// A filter with no constant bounds, Before.
-    pub const OPEN: Sieve = Sieve { lower: None, upper: None, mode: Mode::Before };
+    /// A filter with no constant bounds, Before, where the inclusive bound wins.
+    pub const OPEN: Sieve = Sieve { lower: None, upper: None, wins: Wins::Inclusive, mode: Mode::Before };
 }
 
 impl<'a> Session<'a> {
@@ -227,11 +228,11 @@ impl<'a> Session<'a> {
                 self.scan = Scan::fresh(*start, *end);
                 Said::Ok
             }
-            Call::FilterNew(lower, upper) => {
+            Call::FilterNew(wins, lower, upper) => {
                 refuse_if(lower.len() > 16 || upper.len() > 16, BOUNDS)?;
                 // "The lower bound is the greatest of all lower bounds, the upper the least of all upper bounds in that order".
-                let (lower, upper) = (lower.iter().copied().max(), upper.iter().copied().min());
-                self.filter = Some(Sieve { lower, upper, mode: Mode::Before });
+                let (lower, upper) = (lower.iter().copied().max(), least(*wins, upper));
+                self.filter = Some(Sieve { lower, upper, wins: *wins, mode: Mode::Before });
                 Said::Ok
             }
             Call::FilterNext(lists) => self.sift(None, lists)?,
@@ -252,6 +253,10 @@ impl<'a> Session<'a> {
             Call::Set(scan) => {
                 self.scan = *scan;
                 self.filter = None;
+                Said::Ok
+            }
+            Call::FilterSet(wins, mode) => {
+                self.filter = Some(Sieve { wins: *wins, mode: *mode, ..Sieve::OPEN });
                 Said::Ok
             }
             Call::Check => Said::Length(self.column.check?),
@@ -335,7 +340,7 @@ impl<'a> Session<'a> {
         let mode = match sieve.mode {
             Mode::Before => {
                 let lower = valued(&lists.lower, &lists.inputs, sieve.lower)?.into_iter().max();
-                let upper = valued(&lists.upper, &lists.inputs, sieve.upper)?.into_iter().min();
+                let upper = least(sieve.wins, &valued(&lists.upper, &lists.inputs, sieve.upper)?);
                 // "the lower bound, if any, is first raised to the inclusive target where that is greater in the order".
                 let raised = lower.map(|l| target.map_or(l, |t| l.max(Bound { value: t, exclusive: false })));
                 match raised {
@@ -376,6 +381,17 @@ impl<'a> Session<'a> {
     }
 }
 
+/// "the upper the least of all upper bounds in that order"; in strict mode, "of equal upper values the exclusive one wins".
+fn least(wins: Wins, bounds: &[Constant]) -> Option<Constant> {
+    let value = bounds.iter().map(|b| b.value).min()?;
+    let mut kinds = bounds.iter().filter(|b| b.value == value).map(|b| b.exclusive);
+    let exclusive = match wins {
+        Wins::Inclusive => kinds.all(|exclusive| exclusive),
+        Wins::Exclusive => kinds.any(|exclusive| exclusive),
+    };
+    Some(Bound { value, exclusive })
+}
+
 fn said(answer: Option<i64>) -> Said {
     answer.map_or(Said::None, Said::Value)
 }
@@ -396,7 +412,7 @@ fn list(column: &Column, l: &Listing) -> Outcome<Said> {
     refuse_if(l.lower.len() > 16 || l.upper.len() > 16 || l.from.len() > 256 || l.from.len() != l.to.len(), BOUNDS)?;
     refuse_if(l.to.iter().any(|&end| end > length), WINDOW)?;
     refuse_if(l.from.iter().zip(&l.to).any(|(&s, &e)| !column.rises(s, e)), ORDER)?;
-    let (lower, upper) = (l.lower.iter().copied().max(), l.upper.iter().copied().min());
+    let (lower, upper) = (l.lower.iter().copied().max(), least(l.wins, &l.upper));
     let spans: Vec<(u64, u64)> = l.from.iter().zip(&l.to).map(|(&s, &e)| span(column, s, e, lower, upper)).collect();
     let sum: u64 = spans.iter().map(|(first, past)| past - first).sum();
     refuse_if(sum > l.room as u64 || l.from.len() > l.counts, ROOM)?;

@@ -90,15 +90,18 @@ fn case(d: &mut Dice, number: u64, tally: &mut Tally) -> String {
             whole(number, kind, rust::PRESENT, &runs, lines.collect())
         }
         "raw" => {
-            let (scan, calls) = random::hand_calls(d, &c, &values);
-            let answers = by_hand(&mut bench, scan, &calls, tally);
+            let (scan, (wins, mode), calls) = random::hand_calls(d, &c, &values);
+            let answers = by_hand(&mut bench, scan, (wins, mode), &calls, tally);
             let lines = calls.iter().zip(&answers).map(|(call, (said, scan, sieve))| line(call, said, scan, sieve.as_ref()));
-            let text = format!("{} -> ok\n", Call::Set(scan)) + &lines.collect::<String>();
+            let text = format!("{} -> ok\n{} -> ok\n", Call::Set(scan), Call::FilterSet(wins, mode)) + &lines.collect::<String>();
             whole(number, kind, false, &runs, text)
         }
         "list" | "write" | "read" => {
             let call = match kind {
-                "list" => random::listing(d, &c),
+                "list" => {
+                    let wins = d.pick(&[Wins::Inclusive, Wins::Exclusive]);
+                    random::listing(d, &c, wins)
+                }
                 "write" => Call::Write((6 + 14 * runs.ends.len()).saturating_add_signed(d.pick(&[0, 0, 1, 7, -1]))),
                 _ => random::record(d, &c),
             };
@@ -109,12 +112,14 @@ fn case(d: &mut Dice, number: u64, tally: &mut Tally) -> String {
             whole(number, kind, both, if kind == "read" { &none } else { &runs }, format!("{call} -> {said}\n"))
         }
         _ => {
-            let calls = random::calls_of(d, &c, &values, 25, kind);
+            let mut calls = random::calls_of(d, &c, &values, 25, kind);
+            let strict = d.once_in(3);
+            random::with_ties(d, &mut calls, strict);
             let before = tally.panics;
             let answers = sequence(&mut bench, &calls, tally);
             let far = tally.panics > before;
             let lines = calls.iter().zip(&answers).map(|(call, (said, scan, sieve))| line(call, said, scan, sieve.as_ref()));
-            whole(number, if far { "far" } else { kind }, rust::PRESENT && !far && c.check().is_ok(), &runs, lines.collect())
+            whole(number, if far { "far" } else { kind }, rust::PRESENT && !far && !strict && c.check().is_ok(), &runs, lines.collect())
         }
     }
 }

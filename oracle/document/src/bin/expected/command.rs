@@ -159,7 +159,7 @@ fn listed(runs: &Runs, words: &[String]) -> Result<String, u32> {
     }
     // The command has room for all that a window holds.
     let room = if end <= length { end.saturating_sub(start) as usize } else { 0 };
-    match ask(runs, Call::List(Listing { from: vec![start], to: vec![end], lower, upper, room, counts: 1 })) {
+    match ask(runs, Call::List(Listing { from: vec![start], to: vec![end], lower, upper, room, counts: 1, ..Listing::default() })) {
         Said::Listed { out, .. } => Ok(out.iter().map(|v| format!("{v}\n")).collect()),
         Said::Refused(number) => Err(number),
         other => unreachable!("{other} of a listing"),

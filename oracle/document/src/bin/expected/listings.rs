@@ -10,6 +10,7 @@ const COUNT: u64 = 99;
 pub fn listed() -> String {
     let mut out = String::from("== listed\nC\n");
     asked(&mut out, &c(), &["0 9 - - 16 8", "0 9 x10 i40 16 8", "0,3,3,8 9,8,8,2 i25,x25 i140 16 8", "0,0 9,9 - i15,x15 16 8"]);
+    asked(&mut out, &c(), &["strict 0,0 9,9 - i15,x15 16 8", "strict 0 9 i15,x15 i40,x40 16 8"]);
     asked(&mut out, &c(), &["4,18446744073709551615,100,6 5,4,9,9 i31 x240 16 8", "- - x0 - 16 8"]);
     out += "D\n";
     asked(&mut out, &d(), &["1,1,2,0 5,5,4,1 - - 16 8", "1,1,2 5,4,4 x5 x8 16 8", "1,0 5,2 - - 16 8", "0,1 5,6 - - 16 8"]);
@@ -31,14 +32,14 @@ pub fn listed() -> String {
 fn too_many(out: &mut String) {
     for n in [17, 16] {
         let lower = vec![Bound { value: 0, exclusive: false }; n];
-        line(out, &c(), Listing { from: vec![0], to: vec![10], lower, upper: vec![], room: 16, counts: 8 });
+        line(out, &c(), Listing { from: vec![0], to: vec![10], lower, room: 16, counts: 8, ..Listing::default() });
     }
     for (n, end, counts) in [(256, 0, 256), (257, 10, 1)] {
         line(out, &c(), Listing { from: vec![7; n], to: vec![end; n], room: 1, counts, ..Listing::default() });
     }
 }
 
-/// Listings in the words of a corpus: starts, ends, lower and upper bounds, room, places for counts.
+/// Listings in the words of a corpus: the mode where it is not `crate`, starts, ends, lower and upper bounds, room, places for counts.
 fn asked(out: &mut String, runs: &Runs, listings: &[&str]) {
     for words in listings {
         let Ok(Call::List(listing)) = corpus::call(&format!("list {words}")) else { panic!("'{words}' is no listing") };
