@@ -32,10 +32,11 @@ no-filter-requires c κs = search needs
 returns : tie.Need-returns
 unfolding askFit
 returns c =
-    let at-upper = c .before .before .before .before in
+    let at-scan = c .before .before .before in
+    let at-upper = at-scan .before in
     let at-lower = at-upper .before in
     let at-test = at-lower .before in
-    rw (sym (at-test .before .is-fit .ensures) ∙ at-test .if1 .taken, sym (at-lower .bounds-of .ensures), sym (at-upper .bounds-of2 .ensures), sym (c .before .before .before .scan-of .ensures), sym (c .before .before .mode-of .ensures))
+    rw (sym (at-test .before .is-fit .ensures) ∙ at-test .if1 .taken, sym (at-lower .bounds-of .ensures), sym (at-upper .bounds-of2 .ensures), sym (at-scan .scan-of .ensures), sym (c .before .before .mode-of .ensures))
     (c .flat-new-filter .ensures ∙ ap flatNewFilter (c .before .new .ensures))
 
 returns-2 : tie.Need-returns-2
