@@ -106,7 +106,7 @@ module _ (b : Batch) (h : accepted (listOf b) ≡ true) where
         ∙ ap (λ w. length (valuesIn (b .source .sequence) (low b) (up b) w)) own-span
         ∙ those-number (meetsFolded b) (elements b k)
 
-    -- where no least upper value is given both ways: the elements that meet every bound, as in demand 3
+    -- in strict mode, and where no least upper value is given both ways: the elements that meet every bound, as in demand 3
     pub part-meets-all : tiedIn (b .mode) (bounds (b .upper)) ≡ false → part b k ≡ those (meetsAll (bounds (b .lower)) (bounds (b .upper))) (elements b k)
     part-meets-all t =
         part-is ∙ ap (λ (f : ℤ → Bool). those f (elements b k)) (through (b .mode) (bounds (b .lower)) (bounds (b .upper)) ∙ untied (b .mode) (bounds (b .lower)) (bounds (b .upper)) t)

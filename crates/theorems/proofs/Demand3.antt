@@ -4,6 +4,7 @@
 -- exclusive. Over any run of accepted next and seek calls up to the first none, each answers the earliest element that meets every bound as read
 -- at the first call and lies after the last one given (for a seek: at or after it, and not below the target); none exactly if there is no such
 -- element. From then on all answer none. A first-call seek with no lower bound counts as a next. Next alone lists every such element once, in order."
+-- Request 4: "demand 3 loses its clause about ties in strict mode": `tiedIn` asks for it where the inclusive bound wins, and for nothing in strict mode.
 use Prim.Native.Nat.{ℕ, suc, _≤_, _<_}
 use mathlib.Core.Path.{_≡_, refl, sym, ap, _∙_}
 use mathlib.Core.Bool.{Bool, true, false}
@@ -34,7 +35,7 @@ use Rattle.theorems.proofs.FilterCalls.{call-keeps}
 use Rattle.theorems.proofs.Expected.{is-next, stays-none, nexts-list, walks}
 use Rattle.theorems.proofs.Folded.{by-folded, through, untied}
 
--- A column p, a window start..end, the constant bounds of a new filter, a first call k and calls ks after it: each is a next or a seek with any target,
+-- A column p, a window start..end, the mode and constant bounds of a new filter, a first call k and calls ks after it: each is a next or a seek with any target,
 -- and has variable bounds and inputs of its own. That the window rises is no premise: no call is accepted otherwise (`accepted-exactly-if`).
 module _ (p : Source) (start end : ℕ) (mode : Mode) (lows ups : List Bound) (k : Call) (ks : List Call) where
   -- next or seek, of each call, as it counts
