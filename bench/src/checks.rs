@@ -1,6 +1,6 @@
 //! The check of a column and the rising test, against plain Rust.
 use crate::clock::{Against, Clock, work};
-use crate::columns::{Edge, Runs, edged, rising};
+use crate::columns::{Edge, Runs, edged, rising, with_ones};
 use crate::plain;
 use loftsplice::raw;
 use std::hint::black_box;
@@ -45,8 +45,7 @@ fn refused_alike() {
 
 /// No call is the rising test alone. But a listing tests all its windows before it does anything else, and is refused 7 if one falls: 255 windows over
 /// all that rises and a last one over the two elements that fall are one check and 256 rising tests, with no search and nothing written.
-fn rise(clock: &mut Clock, runs: u64, target: Option<f64>) {
-    let mut column = rising(runs, runs * 64);
+fn rise(clock: &mut Clock, mut column: Runs, size: String, target: Option<f64>) {
     falls_alike(&column);
     *column.steps.last_mut().expect("a run") = -1;
     let Runs { starts, ends, steps } = &column;
@@ -67,10 +66,31 @@ fn rise(clock: &mut Clock, runs: u64, target: Option<f64>) {
     to[255] = all;
     clock.race(
         "rising test, in a listing of 256 windows",
-        format!("{runs} runs"),
-        ("run", 256 * runs),
+        size,
+        ("run", 256 * ends.len() as u64),
         work(|| port(black_box(&to))),
         vec![(Against { name: "plain rising test", target }, work(|| rust(black_box(&to))))],
+    );
+}
+
+/// A seek on a column that does not rise is its check and the rising test, up to the disorder that the test meets first.
+fn refused(clock: &mut Clock, mut column: Runs, at: usize, size: String) {
+    column.starts[at] -= 5; // its first element is then that of the run before, or below
+    let Runs { starts, ends, steps } = &column;
+    let scan = raw::Scan { start: 0, end: column.len(), index: 0, state: raw::FRESH };
+    let port = |starts: &[i64]| raw::scan_seek(scan, starts, ends, steps, 0).answer.refusal;
+    let rust = |starts: &[i64]| match plain::check(starts, ends, steps) {
+        0 if plain::rises(starts, ends, steps, 0, scan.end) => 0,
+        0 => 7,
+        refusal => refusal,
+    };
+    assert_eq!((port(starts), rust(starts)), (7, 7));
+    clock.race(
+        "seek refused 7",
+        size,
+        ("call", 1),
+        work(|| port(black_box(starts))),
+        vec![(Against { name: "plain check and rising test", target: None }, work(|| rust(black_box(starts))))],
     );
 }
 
@@ -85,7 +105,8 @@ fn falls_alike(column: &Runs) {
             let refused = raw::scan_seek(scan, starts, ends, steps, 0).answer.refusal;
             assert!(refused == 0 || refused == 7);
             assert_eq!(plain::rises(starts, ends, steps, 0, bad.len()), refused == 0);
-            assert!(refused == 7 || (kind == 1 && run == 0));
+            let alone = ends[run] - if run == 0 { 0 } else { ends[run - 1] } == 1;
+            assert!(refused == 7 || (kind == 1 && run == 0) || (kind == 0 && alone));
         }
     }
 }
@@ -99,7 +120,11 @@ pub fn measure(clock: &mut Clock) {
     check(clock, 4096, Edge::First, ", the first at an edge of i64", most);
     check(clock, 4096, Edge::Last, ", the last at an edge", most);
     check(clock, 4096, Edge::All, ", all at an edge", most);
-    rise(clock, 16, None);
-    rise(clock, 256, None);
-    rise(clock, 4096, most);
+    for (runs, target) in [(16, None), (256, None), (4096, Some(0.5))] {
+        rise(clock, rising(runs, runs * 64), format!("{runs} runs"), target);
+    }
+    rise(clock, with_ones(4096, |_| true), "4096 runs of one element".into(), None);
+    rise(clock, with_ones(4096, |run| run * run % 7 < 3), "4096 runs, some of one element".into(), None);
+    refused(clock, rising(4096, 4096 * 64), 4095, "4096 runs, the last pair of runs falls".into());
+    refused(clock, rising(4096, 4096 * 64), 1, "4096 runs, the first pair falls".into());
 }

@@ -55,6 +55,18 @@ pub fn rising(runs: u64, elements: u64) -> Runs {
     made
 }
 
+/// A rising column, 64 elements a run, in which the runs that are named hold one element and have step 0, as a run of one is built; the last is whole.
+pub fn with_ones(runs: u64, alone: impl Fn(u64) -> bool) -> Runs {
+    let mut made = Runs::default();
+    let mut start = -1_000_000;
+    for run in 0..runs {
+        let (step, length) = if alone(run) && run + 1 < runs { (0, 1) } else { ((run % 7 + 1) as i16, 64) };
+        made.push(start, step, length);
+        start += i64::from(step) * (length as i64 - 1) + 5;
+    }
+    made
+}
+
 /// Where a column's starts lie.
 #[derive(Clone, Copy)]
 pub enum Edge {
