@@ -124,7 +124,9 @@ pub fn measure(clock: &mut Clock) {
         rise(clock, rising(runs, runs * 64), format!("{runs} runs"), target);
     }
     rise(clock, with_ones(4096, |_| true), "4096 runs of one element".into(), None);
-    rise(clock, with_ones(4096, |run| run * run % 7 < 3), "4096 runs, some of one element".into(), None);
+    // in no order that a processor could foresee
+    let half = |run: u64| (run.wrapping_mul(0x9E37_79B9_7F4A_7C15) >> 32).count_ones() % 2 == 0;
+    rise(clock, with_ones(4096, half), "4096 runs, half of one element".into(), None);
     refused(clock, rising(4096, 4096 * 64), 4095, "4096 runs, the last pair of runs falls".into());
     refused(clock, rising(4096, 4096 * 64), 1, "4096 runs, the first pair falls".into());
 }
