@@ -1,5 +1,5 @@
 -- Scans, limits and modes as numbers, there and back. Assumes nothing.
-use mathlib.Core.Path.{_≡_, refl, ap}
+use mathlib.Core.Path.{_≡_, refl}
 use mathlib.Core.Bool.{true, false}
 use lib.Dec.{eqb}
 use lib.IntN.{pos}

@@ -15,6 +15,7 @@ use Rattle.meaning.specs.declared.Refusal.{Refusal}
 use Rattle.meaning.specs.declared.Refusal.the-variants.{Scan as OffScan}
 use Rattle.meaning.specs.Refusals.{Gives, Number, callOrder, also}
 use Rattle.meaning.specs.Sequence.{Sequence, Source, onSource}
+use Rattle.bounds.specs.declared.Mode.{Mode}
 use Rattle.bounds.specs.declared.Bound.{Bound}
 use Rattle.bounds.specs.declared.Bounds.{Bounds}
 use Rattle.bounds.specs.Bounds.{bounds}
@@ -163,9 +164,9 @@ module _ (p : Source) where
     pub current-after-any-calls : currentOf (leftBy p s ks) ≡ currentWith p (leftBy p s ks)
     current-after-any-calls = current-as-with-the-column (leftBy p s ks) is-source (left-sound ks s (new-sound s made))
 
-    pub filter-current-after-any-calls : (lows ups : List Bound) (as′ : List FilterAct) → let f = filterLeft p as′ (newFilter (leftBy p s ks) lows ups) in filterCurrentOf f ≡ filterCurrentWith p f
-    filter-current-after-any-calls lows ups as′ =
-        let f = newFilter (leftBy p s ks) lows ups in
+    pub filter-current-after-any-calls : (mode : Mode) (lows ups : List Bound) (as′ : List FilterAct) → let f = filterLeft p as′ (newFilter (leftBy p s ks) mode lows ups) in filterCurrentOf f ≡ filterCurrentWith p f
+    filter-current-after-any-calls mode lows ups as′ =
+        let f = newFilter (leftBy p s ks) mode lows ups in
         filter-current-as-with-the-column (filterLeft p as′ f) is-source (filter-left-sound as′ f (left-sound ks s (new-sound s made)))
 
   -- ---- no repair: a scan that is not sound comes back as it went in, from every call
@@ -235,8 +236,8 @@ module _ (p : Source) where
       pos-refuses-6 = pos-refuses p s .refuses-6 .1 (is-sound, bad)
 
 -- making a filter takes any scan, and does not touch it: one that is sound stays so
-pub fitted-keeps : (s : Scan) (lows ups : Bounds) (f : Filter) → fitOf s lows ups ≡ Gives f → f .scan ≡ s
-fitted-keeps s lows ups f h =
-    let made : Gives (newFilter s (bounds lows) (bounds ups)) ≡ Gives f = sym (fit-does s lows ups (ap accepted h)) ∙ h in
-    let is : newFilter s (bounds lows) (bounds ups) ≡ f = cc in
+pub fitted-keeps : (s : Scan) (mode : Mode) (lows ups : Bounds) (f : Filter) → fitOf s mode lows ups ≡ Gives f → f .scan ≡ s
+fitted-keeps s mode lows ups f h =
+    let made : Gives (newFilter s mode (bounds lows) (bounds ups)) ≡ Gives f = sym (fit-does s mode lows ups (ap accepted h)) ∙ h in
+    let is : newFilter s mode (bounds lows) (bounds ups) ≡ f = cc in
     ap (λ (g : Filter). g .scan) (sym is)

@@ -13,7 +13,8 @@ use lib.IntN.{ℤ}
 use Rattle.ranges.specs.Ranges.{every}
 use Rattle.ranges.proofs.Bools.{either, clash, and-left, and-right, not-no, at-some, same-after}
 use Rattle.ranges.proofs.Order.{lt-self, lt-not}
-use Rattle.meaning.specs.Refusals.{Gives, Number, Trial, tried, callOrder, judged}
+use Rattle.meaning.specs.declared.Refusal.the-variants.{Scan as OffScan}
+use Rattle.meaning.specs.Refusals.{Gives, Number, Trial, tried, callOrder, nothing, also, judged}
 use Rattle.meaning.specs.Sequence.{Sequence, Source}
 use Rattle.bounds.specs.declared.BoundaryType.{BoundaryType}
 use Rattle.bounds.specs.declared.BoundaryType.the-variants.{Inclusive, Exclusive}
@@ -24,7 +25,7 @@ use Rattle.bounds.specs.declared.Mode.{Mode}
 use Rattle.bounds.specs.declared.Mode.the-variants.{InclusiveWins, ExclusiveWins}
 use Rattle.bounds.specs.Bounds.{isExclusive, fold, lesser, least, bounds, inputs, variables, asRead}
 use Rattle.loftsplice.specs.declared.scan.Scan.{Scan}
-use Rattle.loftsplice.specs.Scan.{Outcome, onScan}
+use Rattle.loftsplice.specs.Scan.{Outcome, badValue}
 use Rattle.loftsplice.specs.Lead.{onLead, leadFrom}
 use Rattle.loftsplice.specs.Listing.{Batch, listOf, outAfter, countsAfter}
 use Rattle.filter_interval.specs.declared.FilterState.{FilterState}
@@ -139,17 +140,17 @@ module _ (mode : Mode) (ups : List Bound) where
       ap (tried (refuseCall (filterIn mode ups f)) tests) (steps-alike (p .sequence) k f (f .state) refl h)
       ∙ tries-alike f tests (stepFrom (p .sequence) k (filterIn first ups f) (f .state))
 
-  current-alike : (q : Sequence) (f : Filter) (t : FilterState) → currentIn q (filterIn mode ups f) t ≡ currentIn q (filterIn first ups f) t
-  current-alike q f Before = refl
-  current-alike q f (Within up) = refl
-  current-alike q f After = refl
+  current-alike : (f : Filter) (t : FilterState) → currentIn (filterIn mode ups f) t ≡ currentIn (filterIn first ups f) t
+  current-alike f Before = refl
+  current-alike f (Within up) = refl
+  current-alike f After = refl
 
   acts-alike : (p : Source) (a : FilterAct) (f : Filter) → meetsTie ups (f .state) a ≡ false → filterAct p a (filterIn mode ups f) ≡ siftedIn mode ups (filterAct p a (filterIn first ups f))
   unfolding filterCurrentOf
   acts-alike p (ask k) f h = calls-alike p k f h
   acts-alike p again f h = refl
   acts-alike p look f h =
-      ap (λ (o : Option ℤ). record { filter = filterIn mode ups f; said = judged Number (onScan p (f .scan)) (Gives o) }) (current-alike (p .sequence) f (f .state))
+      ap (λ (o : Option ℤ). record { filter = filterIn mode ups f; said = judged Number (also OffScan (badValue (f .scan)) nothing) (Gives o) }) (current-alike f (f .state))
 
 -- next, seek, reset and current, in any order, refused ones among them
 sifts-alike : (mode : Mode) (ups : List Bound) (p : Source) (as′ : List FilterAct) (f : Filter) → tieless p ups (filterIn first ups f) as′ ≡ true

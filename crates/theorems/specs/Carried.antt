@@ -9,6 +9,7 @@ use Rattle.meaning.specs.declared.Refusal.the-variants.{Scan as OffScan}
 use Rattle.meaning.specs.Refusals.{Said, Gives, Number, also, judged}
 use Rattle.meaning.specs.Sequence.{Sequence, Source, onSource, sameZ}
 use Rattle.meaning.specs.Column.{Column, sourceOf}
+use Rattle.bounds.specs.declared.Mode.the-variants.{InclusiveWins}
 use Rattle.bounds.specs.declared.Limit.the-variants.{Free}
 use Rattle.loftsplice.specs.declared.scan.State.{State}
 use Rattle.loftsplice.specs.declared.scan.State.the-variants.{Fresh, At, Ended}
@@ -79,7 +80,7 @@ then-current s = looks ten s (next ∷ seek 10 ∷ Narrow 0 1 ∷ Reset ∷ [])
 
 -- a filter without bounds over such a scan, in a state: current, next, current
 abbrev pub filter-by-hand : Scan → FilterState → Seen
-filter-by-hand s t = filtered (sifts (sourceOf ten) (look ∷ call Next ∷ look ∷ []) (record { scan = s; lower = Free; upper = Free; state = t }))
+filter-by-hand s t = filtered (sifts (sourceOf ten) (look ∷ call Next ∷ look ∷ []) (record { scan = s; mode = InclusiveWins; lower = Free; upper = Free; state = t }))
 
 abbrev pub six : Said (Option ℤ)
 six = Number 6

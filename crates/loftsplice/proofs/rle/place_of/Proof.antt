@@ -33,7 +33,8 @@ shared-slice-read-t5 c = there (c .before)
 
 sub-t9 : tie.Need-sub-t9
 sub-t9 c =
-    let s = c .before .before .before .before in
+    let at-outer = c .before .before in
+    let s = at-outer .before .before in
     rw (s .pre) (omega (arith, run-above (s .args .ends .now) (s .args .index) (omega (arith, s .pre, there (c .before)))))
 
 returns-2 : tie.Need-returns-2

@@ -37,7 +37,8 @@ nowhere-requires c κs = search needs
 
 returns : tie.Need-returns
 returns c =
-    let s = c .before .before .before .before in
+    let at-outer = c .before .before in
+    let s = at-outer .before .before in
     let told = ap saysChecked (c .nowhere .ensures) in
     (told ∙ ap (says s) (sym (c .before .enum-told .given .1)), λ e. refuses-not _ (sym told ∙ e))
 

@@ -76,7 +76,7 @@ of-step c = let o = found c in back w16 _ (c .index-in-arg2 .given)
 
 -- past the second search
 index : (c : tie.After-index-in) →
-    let a = c .before in let at-larger = a .before .before .before .before in let o = found a in let s = st o in
+    let a = c .before in let at-slice2 = a .before .before .before in let at-larger = at-slice2 .before in let o = found a in let s = st o in
     IndexFor (getD (s .args .starts .now) (o .run-for .result) (pos 0)) (getD (s .args .steps .now) (o .run-for .result) (pos 0)) (s .args .target) (at-larger .before .end-before .result) (at-larger .larger .result) (a .before .before .smaller .result) (c .index-in .result)
 index c = rw (of-start (c .before), of-step (c .before), toZ-ofZ (st (found (c .before)) .fits .target)) at (c .index-in .ensures)
 
@@ -144,7 +144,8 @@ place-near-requires : tie.Need-place-near-requires
 place-near-requires c κs =
     let a = c .before in
     let o = found a in
-    let at-end-before = a .before .before .before .before .before in
+    let at-slice2 = a .before .before .before in
+    let at-end-before = at-slice2 .before .before in
     let j = index c in
     (whole (st o) .up, (here o, omega (arith, at-end-before .end-before .ensures, known a .window, j .above), omega (arith, a .before .before .smaller .ensures, j .under)))
 
