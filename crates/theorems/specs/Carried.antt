@@ -60,27 +60,27 @@ abbrev pub ten : Column
 ten = column (run 10 (pos 0) 1 ∷ [])
 
 -- a scan of the window 0..end, by hand
-abbrev pub by-hand : ℕ → State → Carried → Scan
-by-hand end t v = record { start = 0; end = end; state = t; value = v }
+abbrev pub byHand : ℕ → State → Carried → Scan
+byHand end t v = record { start = 0; end = end; state = t; value = v }
 
 -- a value that is not below 0
 abbrev pub held : ℕ → Carried
 held n = Held (pos n)
 
 -- next, seek, narrow and reset, one after the other; a scan that 6 refuses is handed on as it is, so each is refused
-abbrev pub all-calls : Scan → Seen
-all-calls s = acts ten s (next ∷ seek 10 ∷ Narrow 0 1 ∷ Reset ∷ [])
+abbrev pub allCalls : Scan → Seen
+allCalls s = acts ten s (next ∷ seek 10 ∷ Narrow 0 1 ∷ Reset ∷ [])
 
-abbrev pub all-6 : Seen
-all-6 = scanned (Number 6 ∷ Number 6 ∷ Number 6 ∷ Number 6 ∷ []) (Number 6)
+abbrev pub allSix : Seen
+allSix = scanned (Number 6 ∷ Number 6 ∷ Number 6 ∷ Number 6 ∷ []) (Number 6)
 
 -- `current` after these calls
-abbrev pub then-current : Scan → Seen
-then-current s = looks ten s (next ∷ seek 10 ∷ Narrow 0 1 ∷ Reset ∷ [])
+abbrev pub currentThen : Scan → Seen
+currentThen s = looks ten s (next ∷ seek 10 ∷ Narrow 0 1 ∷ Reset ∷ [])
 
 -- a filter without bounds over such a scan, in a state: current, next, current
-abbrev pub filter-by-hand : Scan → FilterState → Seen
-filter-by-hand s t = filtered (sifts (sourceOf ten) (look ∷ call Next ∷ look ∷ []) (record { scan = s; mode = InclusiveWins; lower = Free; upper = Free; state = t }))
+abbrev pub filterByHand : Scan → FilterState → Seen
+filterByHand s t = filtered (sifts (sourceOf ten) (look ∷ call Next ∷ look ∷ []) (record { scan = s; mode = InclusiveWins; lower = Free; upper = Free; state = t }))
 
 abbrev pub six : Said (Option ℤ)
 six = Number 6
@@ -88,32 +88,32 @@ six = Number 6
 abbrev pub carriedTable : List Row
 carriedTable =
     -- a sound scan, fresh, at its index, and ended: its element or none
-    own (looks ten (by-hand 1 Fresh Nothing) []) (looked nothing)
-    ∷ own (looks ten (by-hand 1 Fresh Nothing) (next ∷ [])) (looked (value 10))
-    ∷ own (looks ten (by-hand 1 Fresh Nothing) (next ∷ next ∷ [])) (looked nothing)
-    ∷ own (acts ten (by-hand 1 (At 0) (held 10)) (seek 10 ∷ [])) (scanned (values (10 ∷ [])) (index 0))
+    own (looks ten (byHand 1 Fresh Nothing) []) (looked nothing)
+    ∷ own (looks ten (byHand 1 Fresh Nothing) (next ∷ [])) (looked (value 10))
+    ∷ own (looks ten (byHand 1 Fresh Nothing) (next ∷ next ∷ [])) (looked nothing)
+    ∷ own (acts ten (byHand 1 (At 0) (held 10)) (seek 10 ∷ [])) (scanned (values (10 ∷ [])) (index 0))
     -- "a value is there when fresh or ended": all calls refuse it, and `current` too; no call repairs it
-    ∷ own (all-calls (by-hand 1 Fresh (held 10))) all-6
-    ∷ own (then-current (by-hand 1 Fresh (held 10))) (looked six)
-    ∷ own (all-calls (by-hand 1 Ended (held 10))) all-6
-    ∷ own (then-current (by-hand 1 Ended (held 10))) (looked six)
+    ∷ own (allCalls (byHand 1 Fresh (held 10))) allSix
+    ∷ own (currentThen (byHand 1 Fresh (held 10))) (looked six)
+    ∷ own (allCalls (byHand 1 Ended (held 10))) allSix
+    ∷ own (currentThen (byHand 1 Ended (held 10))) (looked six)
     -- "or missing at an index"
-    ∷ own (all-calls (by-hand 1 (At 0) Nothing)) all-6
-    ∷ own (then-current (by-hand 1 (At 0) Nothing)) (looked six)
+    ∷ own (allCalls (byHand 1 (At 0) Nothing)) allSix
+    ∷ own (currentThen (byHand 1 (At 0) Nothing)) (looked six)
     -- "where the carried value is not the column's element at that index": all other calls refuse it, `current` answers it
-    ∷ own (all-calls (by-hand 1 (At 0) (held 11))) all-6
-    ∷ own (then-current (by-hand 1 (At 0) (held 11))) (looked (value 11))
+    ∷ own (allCalls (byHand 1 (At 0) (held 11))) allSix
+    ∷ own (currentThen (byHand 1 (At 0) (held 11))) (looked (value 11))
     -- a window that ends above the length, and an index outside its window: `current` answers what is carried
-    ∷ own (all-calls (by-hand 2 (At 0) (held 10))) all-6
-    ∷ own (then-current (by-hand 2 (At 0) (held 10))) (looked (value 10))
-    ∷ own (all-calls (by-hand 1 (At 1) (held 10))) all-6
-    ∷ own (then-current (by-hand 1 (At 1) (held 10))) (looked (value 10))
+    ∷ own (allCalls (byHand 2 (At 0) (held 10))) allSix
+    ∷ own (currentThen (byHand 2 (At 0) (held 10))) (looked (value 10))
+    ∷ own (allCalls (byHand 1 (At 1) (held 10))) allSix
+    ∷ own (currentThen (byHand 1 (At 1) (held 10))) (looked (value 10))
     -- the filter's: what is carried when Within, else none; 6 in any filter state
-    ∷ own (filter-by-hand (by-hand 1 (At 0) (held 11)) (Within Free)) (filtered (value 11 ∷ six ∷ value 11 ∷ []))
-    ∷ own (filter-by-hand (by-hand 1 (At 0) (held 11)) Before) (filtered (nothing ∷ six ∷ nothing ∷ []))
-    ∷ own (filter-by-hand (by-hand 1 (At 0) (held 11)) After) (filtered (nothing ∷ six ∷ nothing ∷ []))
-    ∷ own (filter-by-hand (by-hand 1 Fresh (held 10)) (Within Free)) (filtered (six ∷ six ∷ six ∷ []))
-    ∷ own (filter-by-hand (by-hand 1 Fresh (held 10)) Before) (filtered (six ∷ six ∷ six ∷ []))
-    ∷ own (filter-by-hand (by-hand 1 Fresh (held 10)) After) (filtered (six ∷ six ∷ six ∷ []))
-    ∷ own (filter-by-hand (by-hand 1 Fresh Nothing) (Within Free)) (filtered (nothing ∷ value 10 ∷ value 10 ∷ []))
+    ∷ own (filterByHand (byHand 1 (At 0) (held 11)) (Within Free)) (filtered (value 11 ∷ six ∷ value 11 ∷ []))
+    ∷ own (filterByHand (byHand 1 (At 0) (held 11)) Before) (filtered (nothing ∷ six ∷ nothing ∷ []))
+    ∷ own (filterByHand (byHand 1 (At 0) (held 11)) After) (filtered (nothing ∷ six ∷ nothing ∷ []))
+    ∷ own (filterByHand (byHand 1 Fresh (held 10)) (Within Free)) (filtered (six ∷ six ∷ six ∷ []))
+    ∷ own (filterByHand (byHand 1 Fresh (held 10)) Before) (filtered (six ∷ six ∷ six ∷ []))
+    ∷ own (filterByHand (byHand 1 Fresh (held 10)) After) (filtered (six ∷ six ∷ six ∷ []))
+    ∷ own (filterByHand (byHand 1 Fresh Nothing) (Within Free)) (filtered (nothing ∷ value 10 ∷ value 10 ∷ []))
     ∷ []
