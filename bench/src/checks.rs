@@ -101,7 +101,7 @@ fn falls_alike(column: &Runs) {
             let mut bad = column.clone();
             if kind == 0 { bad.steps[run] = -1 } else { bad.starts[run] -= 5 }
             let Runs { starts, ends, steps } = &bad;
-            let scan = raw::Scan { start: 0, end: bad.len(), index: 0, state: raw::FRESH };
+            let scan = raw::Scan { start: 0, end: bad.len(), index: 0, value: 0, state: raw::FRESH, found: 0 };
             let refused = raw::scan_seek(scan, starts, ends, steps, 0).answer.refusal;
             assert!(refused == 0 || refused == 7);
             assert_eq!(plain::rises(starts, ends, steps, 0, bad.len()), refused == 0);
