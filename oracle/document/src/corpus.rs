@@ -1,5 +1,4 @@
-//! The text format of call sequences and answers (documents CORPUS and CORPUS2): printing, and reading any file of that format. A mode that is left out
-//! is `crate`; the value that a scan carries is read over.
+//! The text format of call sequences and answers (documents CORPUS and CORPUS2): printing, and reading any file of that format.
 use crate::calls::*;
 use crate::model::Sieve;
 use std::fmt::Display;
