@@ -154,6 +154,40 @@ fn every_refusal_has_its_number() {
 }
 
 #[test]
+fn what_is_carried_is_the_element_at_the_index() {
+    let holds = |scan: &Scan| {
+        let element = scan.pos().map(|i| scan.column().get(i).unwrap());
+        assert_eq!(scan.current(), element);
+        assert_eq!((scan.raw().found == 1).then_some(scan.raw().value), element);
+    };
+    let mut scan = column(C).scan();
+    holds(&scan);
+    for target in [12, 26, 31, 241] {
+        scan.next();
+        holds(&scan);
+        scan.seek(target).unwrap();
+        holds(&scan);
+    }
+    scan.reset();
+    holds(&scan);
+    scan.next();
+    assert_eq!(scan.narrow(0..10), Err(Refusal::Window));
+    holds(&scan);
+    scan.narrow(3..8).unwrap();
+    holds(&scan);
+    let mut filter = Filter::new(scan, &[], &[Bound::Inclusive(31)]).unwrap();
+    for wanted in [Some(25), Some(30), Some(31), None] {
+        assert_eq!(filter.next(), Ok(wanted));
+        assert_eq!(filter.current(), wanted);
+        holds(filter.scan());
+    }
+    // past the bound the scan stands on an element, and the filter has none
+    assert_eq!(filter.scan().current(), Some(40));
+    filter.reset();
+    holds(filter.scan());
+}
+
+#[test]
 fn a_value_that_does_not_belong_there_is_refused_and_comes_back() {
     let (starts, ends, steps) = C;
     let refused = |refusal| raw::Answer {
