@@ -18,7 +18,9 @@ fn reason(why: Refusal) {
         Refusal::Reach => message(b"a run's last element is outside i64\n"),
         Refusal::Index => message(b"the index is not below the length\n"),
         Refusal::Window => message(b"the window's end is above the length\n"),
-        Refusal::Scan => message(b"the scan's window or index is outside, or its value is not the element there\n"),
+        Refusal::Scan => message(
+            b"the scan's window or index is outside, or its value is not the element there\n",
+        ),
         Refusal::Order => message(b"the elements do not rise\n"),
         Refusal::Bounds => message(b"too many bounds, inputs or windows\n"),
         Refusal::Input => message(b"a bound's input has no value\n"),

@@ -270,9 +270,6 @@ pub fn call(text: &str) -> Parsed<Call> {
     if words.first() == Some(&"read") && words.len() == 4 {
         words.insert(1, "-");
     }
-    if words.first() == Some(&"set") && words.len() == 5 && is_carried(words[4]) {
-        words.pop();
-    }
     if matches!((words.first(), words.len()), (Some(&"fnew"), 3) | (Some(&"list"), 7)) {
         words.insert(1, "crate");
     }
@@ -297,8 +294,8 @@ pub fn call(text: &str) -> Parsed<Call> {
         ["fset", w, "W", kept] => Call::FilterSet(wins(w)?, mode(&["W", kept])?),
         ["fset", w, at, "-"] => Call::FilterSet(wins(w)?, mode(&[at])?),
         ["list", w, from, to, l, u, room, counts] => Call::List(Listing {
-            from: items(from, number)?,
-            to: items(to, number)?,
+            from: numbers(from)?,
+            to: numbers(to)?,
             wins: wins(w)?,
             lower: items(l, bound)?,
             upper: items(u, bound)?,
