@@ -393,7 +393,7 @@ static void carried(void) {
     within_fresh.state = LOFTSPLICE_WITHIN;
     NONE(loftsplice_filter_current(within_fresh));
     loftsplice_scan odd = {0, 9, 2, 20, LOFTSPLICE_AT, 2};
-    SAME(loftsplice_filter_new(odd, NULL, 0, NULL, 0, NULL, 0, NULL, 0).refusal, LOFTSPLICE_FORM);
+    SAME(loftsplice_filter_new(odd, LOFTSPLICE_INCLUSIVE_WINS, NULL, 0, NULL, 0, NULL, 0, NULL, 0).refusal, LOFTSPLICE_FORM);
 }
 
 static void filters(void) {

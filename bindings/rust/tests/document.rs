@@ -234,7 +234,7 @@ fn a_value_that_does_not_belong_there_is_refused_and_comes_back() {
             value,
         });
         assert_eq!(raw::scan_current(scan), said);
-        let made = raw::filter_new(scan, &[], &[], &[], &[]).filter;
+        let made = raw::filter_new(scan, raw::INCLUSIVE_WINS, &[], &[], &[], &[]).filter;
         for state in [raw::BEFORE, raw::WITHIN, raw::AFTER] {
             let filter = raw::Filter { state, ..made };
             assert_eq!(
@@ -260,7 +260,7 @@ fn a_value_that_does_not_belong_there_is_refused_and_comes_back() {
             raw::Moved { scan, answer }
         );
         assert_eq!(raw::scan_current(scan), answer);
-        assert_eq!(raw::filter_new(scan, &[], &[], &[], &[]).refusal, raw::FORM);
+        assert_eq!(raw::filter_new(scan, raw::INCLUSIVE_WINS, &[], &[], &[], &[]).refusal, raw::FORM);
     }
 }
 
