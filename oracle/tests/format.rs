@@ -24,18 +24,6 @@ fn examples_of_the_documents() {
     assert_eq!(differences(EXAMPLES), Vec::<String>::new());
 }
 
-/// An answer without the value that the scan carries, which is read over.
-fn uncarried(answer: &str) -> String {
-    let Some((said, state)) = answer.split_once(" | ") else {
-        return answer.into();
-    };
-    let mut words: Vec<&str> = state.split(' ').collect();
-    if words.get(3).is_some_and(|w| *w == "-" || w.parse::<i64>().is_ok()) {
-        words.remove(3);
-    }
-    format!("{said} | {}", words.join(" "))
-}
-
 /// Every call and answer of the examples prints as it was read.
 #[test]
 fn printed_as_read() {
@@ -45,7 +33,7 @@ fn printed_as_read() {
         let expected = corpus::expected(answer).unwrap();
         let sieve = expected.mode.map(|mode| oracle::model::Sieve { mode, ..oracle::model::Sieve::OPEN });
         let state = expected.scan.map_or(String::new(), |s| corpus::after(&s, sieve.as_ref()));
-        assert_eq!(format!("{}{state}", expected.said), uncarried(answer));
+        assert_eq!(format!("{}{state}", expected.said), answer);
     }
 }
 
