@@ -77,7 +77,7 @@ fn rise(clock: &mut Clock, mut column: Runs, size: String, target: Option<f64>) 
 fn refused(clock: &mut Clock, mut column: Runs, at: usize, size: String) {
     column.starts[at] -= 5; // its first element is then that of the run before, or below
     let Runs { starts, ends, steps } = &column;
-    let scan = raw::Scan { start: 0, end: column.len(), index: 0, state: raw::FRESH };
+    let scan = raw::Scan { start: 0, end: column.len(), index: 0, value: 0, state: raw::FRESH, found: 0 };
     let port = |starts: &[i64]| raw::scan_seek(scan, starts, ends, steps, 0).answer.refusal;
     let rust = |starts: &[i64]| match plain::check(starts, ends, steps) {
         0 if plain::rises(starts, ends, steps, 0, scan.end) => 0,
