@@ -1,11 +1,12 @@
 //! Single calls, each with its checks: against a Rust function that makes the same checks and then calls the Rust's own, and against the Rust's own
 //! alone. Each side is an endless sequence of calls, which starts anew after its end.
 use crate::clock::{Against, Clock, work};
-use crate::columnar::column::rle::ColumnScanRle;
+use crate::columnar::column::rle::{ColumnRle, ColumnScanRle};
 use crate::columnar::columnscan::{ColumnScan, ColumnScanCell};
 use crate::columnar::operations::filter_interval::{ColumnScanFilterInterval, IntervalBoundConstant};
 use crate::columns::{Runs, rising};
 use crate::plain;
+use crate::standins::Column;
 use loftsplice::raw;
 
 /// An answer, or a refusal's number.
@@ -27,6 +28,12 @@ fn sound(runs: &Runs) -> Result<(), u32> {
 fn sorted(runs: &Runs) -> Result<(), u32> {
     sound(runs)?;
     if plain::rises(&runs.starts, &runs.ends, &runs.steps, 0, runs.len()) { Ok(()) } else { Err(7) }
+}
+
+#[inline(never)]
+fn checked_get(runs: &Runs, column: &ColumnRle<i64>, index: u64) -> Answer {
+    sound(runs)?;
+    if index < runs.len() { Ok(Some(column.get(index as usize))) } else { Err(4) }
 }
 
 #[inline(never)]
@@ -75,6 +82,36 @@ fn race<'a>(
         work(port),
         vec![
             (Against { name: "the Rust's own behind the same checks", target: Some(1.0) }, work(checked)),
+            (Against { name: "the Rust's own, unchecked", target: None }, work(unchecked)),
+        ],
+    );
+}
+
+/// Elements of the column, in no foreseeable order of their indices.
+fn get(clock: &mut Clock, runs: &Runs) {
+    let column = runs.column();
+    let indices = || {
+        let (mut at, length) = (0, runs.len());
+        move || {
+            at = (at + 0x9E37_79B9) % length;
+            at
+        }
+    };
+    let (mut ours, mut theirs, mut bare) = (indices(), indices(), indices());
+    let mut port = || said(raw::get(&runs.starts, &runs.ends, &runs.steps, ours()));
+    let mut checked = || checked_get(runs, &column, theirs());
+    let mut unchecked = || Ok(Some(column.get(bare() as usize)));
+    for call in 0..runs.len() {
+        let answers: [Answer; 3] = [port(), checked(), unchecked()];
+        assert!(answers[0] == answers[1] && answers[0] == answers[2], "get, call {call}: {answers:?}");
+    }
+    clock.race(
+        "get",
+        format!("{} runs", runs.ends.len()),
+        ("call", 1),
+        work(port),
+        vec![
+            (Against { name: "the Rust's own behind the same checks", target: None }, work(checked)),
             (Against { name: "the Rust's own, unchecked", target: None }, work(unchecked)),
         ],
     );
@@ -202,6 +239,7 @@ fn filter_next(clock: &mut Clock, runs: &Runs) {
 
 pub fn measure(clock: &mut Clock) {
     let columns = [16, 256, 4096].map(|runs| rising(runs, runs * 16));
+    columns.iter().for_each(|runs| get(clock, runs));
     columns.iter().for_each(|runs| scan_next(clock, runs));
     columns.iter().for_each(|runs| scan_seek(clock, runs));
     columns.iter().for_each(|runs| filter_next(clock, runs));
