@@ -1,4 +1,5 @@
-// Call sequences on scans, one call a line: what it answers, then the scan's window, its state and, in brackets, the value that it carries. Windows inside falling runs, ends within a run,
+// Call sequences on scans, one call a line: what it answers, then the scan's window, its state and, in brackets, the value that it carries.
+// Windows inside falling runs, ends within a run,
 // starts beyond the column, the extremes of i64, and scans that are refused.
 use loftsplice::scan::Carried;
 use loftsplice::scan::Made;

@@ -1,4 +1,4 @@
--- `scan::check_value` meets its contract. Assumes nothing.
+-- `standing::check_value` meets its contract. Assumes nothing.
 use mathlib.Core.Path.{_≡_, refl, sym, ap, _∙_}
 use mathlib.Core.Bool.{not, true, false}
 use mathlib.Core.Option.{some}
@@ -16,8 +16,8 @@ use Rattle.loftsplice.specs.Scan.{carriedBy, sameValue}
 use Rattle.loftsplice.specs.Inner.{offIf}
 use Rattle.loftsplice.proofs.ScanCases.{same-value, other-value, refuses-not}
 use borrow.Author.Needs.{needs}
-use Rattle.loftsplice.proofs.scan.check_value.Statement.{statement}
-use Rattle.loftsplice.proofs.scan.check_value.Tie as tie
+use Rattle.loftsplice.proofs.standing.check_value.Statement.{statement}
+use Rattle.loftsplice.proofs.standing.check_value.Tie as tie
 
 abbrev element : tie.Start → ℤ
 element s = elementAt (columnNow (s .args .starts) (s .args .ends) (s .args .steps)) (s .args .index)

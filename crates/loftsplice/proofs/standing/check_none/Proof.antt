@@ -1,4 +1,4 @@
--- `scan::check_none` meets its contract. Assumes nothing.
+-- `standing::check_none` meets its contract. Assumes nothing.
 use mathlib.Core.Path.{sym, ap, _∙_}
 use mathlib.Core.Bool.{not}
 use mathlib.Core.Option.{none}
@@ -7,8 +7,8 @@ use Rattle.loftsplice.specs.declared.scan.Carried.{Carried}
 use Rattle.loftsplice.specs.Scan.{carriedBy, sameValue}
 use Rattle.loftsplice.specs.Inner.{offIf}
 use borrow.Author.Needs.{needs}
-use Rattle.loftsplice.proofs.scan.check_none.Statement.{statement}
-use Rattle.loftsplice.proofs.scan.check_none.Tie as tie
+use Rattle.loftsplice.proofs.standing.check_none.Statement.{statement}
+use Rattle.loftsplice.proofs.standing.check_none.Tie as tie
 
 enum-told : tie.Need-enum-told
 enum-told c = search needs
