@@ -9,6 +9,14 @@
  * A list is a pointer and the number of its elements; the pointer has to be good for that many, and is not read where that is 0.
  * A column is three lists: run starts, run ends (counted from the column's beginning) and steps. It goes with each call that looks at it.
  * Lists that are written (`out`, `counts`, ..) may not overlap with others.
+ *
+ * Alignment: a list is aligned as its elements' type is: what is declared as an array of it and what malloc gives are; bytes may stand anywhere.
+ *
+ * Threads: the library keeps nothing between calls, has no data of its own that is written, and writes into the lists that are handed over for it and
+ * nowhere else. So any number of threads may call at once, also on one column, as long as nobody writes to its lists meanwhile.
+ *
+ * Cost: each call's comment ends with it. R is the number of runs, W of windows, N of elements written; bounds and inputs, of which there are few, count
+ * as constant. The O(R) is the check of the whole column that each call on one begins with. The costs are read off the code; answers are proved.
  */
 #ifndef LOFTSPLICE_H
 #define LOFTSPLICE_H
@@ -20,23 +28,57 @@
 extern "C" {
 #endif
 
+/* ---- limits: the most that there may be, and the refusal of more */
+
+#define LOFTSPLICE_MAX_RUNS 4096                     /* runs of a column: LOFTSPLICE_SHAPE */
+#define LOFTSPLICE_MAX_ELEMENTS UINT64_C(4294967295) /* elements of a column: LOFTSPLICE_ENDS */
+#define LOFTSPLICE_MAX_RECORD 57350                  /* bytes of a record, of LOFTSPLICE_MAX_RUNS runs then: LOFTSPLICE_SIZE */
+#define LOFTSPLICE_MAX_BOUNDS 16                     /* bounds in a list: LOFTSPLICE_BOUNDS */
+#define LOFTSPLICE_MAX_INPUTS 8                      /* inputs: LOFTSPLICE_BOUNDS */
+#define LOFTSPLICE_MAX_WINDOWS 256                   /* windows of a listing: LOFTSPLICE_BOUNDS */
+
+/* ---- numbers */
+
 /* Refusals. Each call's line says which it gives, in the order in which they are tried. */
 enum {
-    LOFTSPLICE_SHAPE = 1,   /* list lengths of the column differ, or over 4,096 runs */
-    LOFTSPLICE_ENDS = 2,    /* an end is not above the one before (the first: above 0), or is over 4,294,967,295 */
+    LOFTSPLICE_SHAPE = 1,   /* list lengths of the column differ, or over LOFTSPLICE_MAX_RUNS runs */
+    LOFTSPLICE_ENDS = 2,    /* an end is not above the one before (the first: above 0), or is over LOFTSPLICE_MAX_ELEMENTS */
     LOFTSPLICE_REACH = 3,   /* a run's last element is outside i64 */
     LOFTSPLICE_INDEX = 4,   /* element asked at index >= length; place asked above length */
     LOFTSPLICE_WINDOW = 5,  /* window end above length */
     LOFTSPLICE_SCAN = 6,    /* the scan's window end is above length, its index is outside its window, or it does not carry the element that it is at */
     LOFTSPLICE_ORDER = 7,   /* seek, filter or listing over a window that doesn't rise */
-    LOFTSPLICE_BOUNDS = 8,  /* over 16 bounds in a list, over 8 inputs; over 256 windows or window lists of unequal length */
+    LOFTSPLICE_BOUNDS = 8,  /* over LOFTSPLICE_MAX_BOUNDS bounds in a list, over LOFTSPLICE_MAX_INPUTS inputs; over LOFTSPLICE_MAX_WINDOWS windows, or
+                             * window lists of unequal length */
     LOFTSPLICE_INPUT = 9,   /* Before only: a variable bound names an input that isn't there or has no value */
     LOFTSPLICE_ROOM = 10,   /* an output has fewer places than the answer needs */
     LOFTSPLICE_CUT = 11,    /* record: fewer than 4 bytes, or fewer than the length says */
     LOFTSPLICE_KIND = 12,   /* record: kind is not 1 */
-    LOFTSPLICE_SIZE = 13,   /* record: length under 2 or over 57,346, or length minus 2 no multiple of 14 */
+    LOFTSPLICE_SIZE = 13,   /* record: length under 2 or over LOFTSPLICE_MAX_RECORD - 4, or length minus 2 no multiple of 14 */
     LOFTSPLICE_FORM = 100   /* a number that is no state, kind, mode or found, or two lists that belong together and differ in length */
 };
+
+/* A refusal's name, which is its word above without LOFTSPLICE_: "SHAPE" for 1; "accepted" for 0, "unknown" for any other number. O(1). */
+static inline const char *loftsplice_refusal_name(uint32_t number) {
+    switch (number) {
+    case 0: return "accepted";
+    case LOFTSPLICE_SHAPE: return "SHAPE";
+    case LOFTSPLICE_ENDS: return "ENDS";
+    case LOFTSPLICE_REACH: return "REACH";
+    case LOFTSPLICE_INDEX: return "INDEX";
+    case LOFTSPLICE_WINDOW: return "WINDOW";
+    case LOFTSPLICE_SCAN: return "SCAN";
+    case LOFTSPLICE_ORDER: return "ORDER";
+    case LOFTSPLICE_BOUNDS: return "BOUNDS";
+    case LOFTSPLICE_INPUT: return "INPUT";
+    case LOFTSPLICE_ROOM: return "ROOM";
+    case LOFTSPLICE_CUT: return "CUT";
+    case LOFTSPLICE_KIND: return "KIND";
+    case LOFTSPLICE_SIZE: return "SIZE";
+    case LOFTSPLICE_FORM: return "FORM";
+    default: return "unknown";
+    }
+}
 
 /* The state of a scan. */
 enum { LOFTSPLICE_FRESH = 0, LOFTSPLICE_AT = 1, LOFTSPLICE_ENDED = 2 };
@@ -53,6 +95,8 @@ enum { LOFTSPLICE_INCLUSIVE_WINS = 1, LOFTSPLICE_EXCLUSIVE_WINS = 2 };
 
 /* The state in a scan or filter that was refused when it was made: no state, so that each call on it is refused LOFTSPLICE_FORM. */
 #define LOFTSPLICE_NO_STATE UINT32_C(4294967295)
+
+/* ---- what is handed over and given */
 
 /* A window start..end and a state; the index is read only when LOFTSPLICE_AT, and given as 0 otherwise.
  * And what the scan carries: found 1 and the element that it is at, or found 0, when fresh or ended; any other found is refused LOFTSPLICE_FORM. The
@@ -172,92 +216,145 @@ typedef struct loftsplice_written {
     uint64_t bytes;
 } loftsplice_written;
 
+/* ---- layout: these are the sizes and places that the library has (x86-64 Linux). Where a compiler lays a struct out otherwise, it fails here: by a
+ * static assertion since C11 and C++11, by an array of a size below 0 before. */
+
+#if defined(__cplusplus) && __cplusplus >= 201103L
+#define LOFTSPLICE_LAYOUT_HOLDS(name, test) static_assert(test, #name " is not laid out as the library has it")
+#elif !defined(__cplusplus) && __STDC_VERSION__ >= 201112L
+#define LOFTSPLICE_LAYOUT_HOLDS(name, test) _Static_assert(test, #name " is not laid out as the library has it")
+#else
+#define LOFTSPLICE_LAYOUT_HOLDS(name, test) typedef char name##_is_laid_out_as_the_library_has_it[(test) ? 1 : -1]
+#endif
+#define LOFTSPLICE_LAYOUT_SIZE(type, size) LOFTSPLICE_LAYOUT_HOLDS(type, sizeof(type) == (size))
+#define LOFTSPLICE_LAYOUT_FIELD(type, field, place) LOFTSPLICE_LAYOUT_HOLDS(type##_##field, offsetof(type, field) == (place))
+#define LOFTSPLICE_LAYOUT_2(type, size, a, at_a, b, at_b)                                                                                          \
+    LOFTSPLICE_LAYOUT_SIZE(type, size);                                                                                                            \
+    LOFTSPLICE_LAYOUT_FIELD(type, a, at_a);                                                                                                        \
+    LOFTSPLICE_LAYOUT_FIELD(type, b, at_b)
+#define LOFTSPLICE_LAYOUT_3(type, size, a, at_a, b, at_b, c, at_c)                                                                                 \
+    LOFTSPLICE_LAYOUT_2(type, size, a, at_a, b, at_b);                                                                                             \
+    LOFTSPLICE_LAYOUT_FIELD(type, c, at_c)
+#define LOFTSPLICE_LAYOUT_4(type, size, a, at_a, b, at_b, c, at_c, d, at_d)                                                                        \
+    LOFTSPLICE_LAYOUT_3(type, size, a, at_a, b, at_b, c, at_c);                                                                                    \
+    LOFTSPLICE_LAYOUT_FIELD(type, d, at_d)
+#define LOFTSPLICE_LAYOUT_6(type, size, a, at_a, b, at_b, c, at_c, d, at_d, e, at_e, f, at_f)                                                      \
+    LOFTSPLICE_LAYOUT_4(type, size, a, at_a, b, at_b, c, at_c, d, at_d);                                                                           \
+    LOFTSPLICE_LAYOUT_FIELD(type, e, at_e);                                                                                                        \
+    LOFTSPLICE_LAYOUT_FIELD(type, f, at_f)
+
+LOFTSPLICE_LAYOUT_6(loftsplice_scan, 40, start, 0, end, 8, index, 16, value, 24, state, 32, found, 36);
+LOFTSPLICE_LAYOUT_2(loftsplice_limit, 16, value, 0, kind, 8);
+LOFTSPLICE_LAYOUT_6(loftsplice_filter, 96, scan, 0, lower, 40, upper, 56, kept, 72, state, 88, mode, 92);
+LOFTSPLICE_LAYOUT_2(loftsplice_length, 16, refusal, 0, length, 8);
+LOFTSPLICE_LAYOUT_2(loftsplice_emptiness, 8, refusal, 0, empty, 4);
+LOFTSPLICE_LAYOUT_4(loftsplice_placed, 32, refusal, 0, run, 8, offset, 16, follows, 24);
+LOFTSPLICE_LAYOUT_2(loftsplice_difference, 8, found, 0, step, 4);
+LOFTSPLICE_LAYOUT_3(loftsplice_answer, 16, refusal, 0, found, 4, value, 8);
+LOFTSPLICE_LAYOUT_3(loftsplice_position, 16, refusal, 0, found, 4, index, 8);
+LOFTSPLICE_LAYOUT_2(loftsplice_new_scan, 48, refusal, 0, scan, 8);
+LOFTSPLICE_LAYOUT_2(loftsplice_moved, 56, scan, 0, answer, 40);
+LOFTSPLICE_LAYOUT_2(loftsplice_new_filter, 104, refusal, 0, filter, 8);
+LOFTSPLICE_LAYOUT_2(loftsplice_sifted, 112, filter, 0, answer, 96);
+LOFTSPLICE_LAYOUT_2(loftsplice_reset, 104, refusal, 0, filter, 8);
+LOFTSPLICE_LAYOUT_2(loftsplice_listed, 16, refusal, 0, sum, 8);
+LOFTSPLICE_LAYOUT_3(loftsplice_read, 24, refusal, 0, runs, 8, used, 16);
+LOFTSPLICE_LAYOUT_2(loftsplice_written, 16, refusal, 0, bytes, 8);
+
+#undef LOFTSPLICE_LAYOUT_HOLDS
+#undef LOFTSPLICE_LAYOUT_SIZE
+#undef LOFTSPLICE_LAYOUT_FIELD
+#undef LOFTSPLICE_LAYOUT_2
+#undef LOFTSPLICE_LAYOUT_3
+#undef LOFTSPLICE_LAYOUT_4
+#undef LOFTSPLICE_LAYOUT_6
+
 /* ---- the column */
 
-/* Whether the three lists are a column: 0, or refused 1, 2, 3. */
+/* Whether the three lists are a column: 0, or refused 1, 2, 3. O(R). */
 uint32_t loftsplice_check(const int64_t *starts, size_t starts_len, const uint64_t *ends, size_t ends_len, const int16_t *steps, size_t steps_len);
 
-/* The number of elements; or refused 1, 2, 3. */
+/* The number of elements; or refused 1, 2, 3. O(R). */
 loftsplice_length loftsplice_len(const int64_t *starts, size_t starts_len, const uint64_t *ends, size_t ends_len, const int16_t *steps, size_t steps_len);
 
-/* Whether there is no element; or refused 1, 2, 3. */
+/* Whether there is no element; or refused 1, 2, 3. O(R). */
 loftsplice_emptiness loftsplice_is_empty(const int64_t *starts, size_t starts_len, const uint64_t *ends, size_t ends_len, const int16_t *steps,
     size_t steps_len);
 
-/* The place of an index, (run count, 0, 0) for the length; or refused 1, 2, 3, 4. */
+/* The place of an index, (run count, 0, 0) for the length; or refused 1, 2, 3, 4. O(R). */
 loftsplice_placed loftsplice_place(const int64_t *starts, size_t starts_len, const uint64_t *ends, size_t ends_len, const int16_t *steps,
     size_t steps_len, uint64_t index);
 
-/* The element at an index, found 1; or refused 1, 2, 3, 4. */
+/* The element at an index, found 1; or refused 1, 2, 3, 4. O(R). */
 loftsplice_answer loftsplice_get(const int64_t *starts, size_t starts_len, const uint64_t *ends, size_t ends_len, const int16_t *steps,
     size_t steps_len, uint64_t index);
 
-/* The step from one value to another, if current minus previous is a step (-32,768..32,767). */
+/* The step from one value to another, if current minus previous is a step (-32,768..32,767). O(1). */
 loftsplice_difference loftsplice_diff_step(int64_t previous, int64_t current);
 
 /* ---- the scan */
 
-/* A fresh scan over the whole column; or refused 1, 2, 3, and then the scan's state is LOFTSPLICE_NO_STATE. */
+/* A fresh scan over the whole column; or refused 1, 2, 3, and then the scan's state is LOFTSPLICE_NO_STATE. O(R). */
 loftsplice_new_scan loftsplice_scan_new(const int64_t *starts, size_t starts_len, const uint64_t *ends, size_t ends_len, const int16_t *steps,
     size_t steps_len);
 
-/* To the next element, or none at the window's end; or refused 100, 1, 2, 3, 6. */
+/* To the next element, or none at the window's end; or refused 100, 1, 2, 3, 6. O(R). */
 loftsplice_moved loftsplice_scan_next(loftsplice_scan scan, const int64_t *starts, size_t starts_len, const uint64_t *ends, size_t ends_len,
     const int16_t *steps, size_t steps_len);
 
-/* To the first element from here on that is not below the target, or none; or refused 100, 1, 2, 3, 6, 7. */
+/* To the first element from here on that is not below the target, or none; or refused 100, 1, 2, 3, 6, 7. O(R). */
 loftsplice_moved loftsplice_scan_seek(loftsplice_scan scan, const int64_t *starts, size_t starts_len, const uint64_t *ends, size_t ends_len,
     const int16_t *steps, size_t steps_len, int64_t target);
 
-/* To another window start..end of the column, fresh, answering none; or refused 100, 1, 2, 3, 6, 5. */
+/* To another window start..end of the column, fresh, answering none; or refused 100, 1, 2, 3, 6, 5. O(R). */
 loftsplice_moved loftsplice_scan_narrow(loftsplice_scan scan, const int64_t *starts, size_t starts_len, const uint64_t *ends, size_t ends_len,
     const int16_t *steps, size_t steps_len, uint64_t start, uint64_t end);
 
-/* Fresh in the same window, answering none; or refused 100, 1, 2, 3, 6. */
+/* Fresh in the same window, answering none; or refused 100, 1, 2, 3, 6. O(R). */
 loftsplice_moved loftsplice_scan_reset(loftsplice_scan scan, const int64_t *starts, size_t starts_len, const uint64_t *ends, size_t ends_len,
     const int16_t *steps, size_t steps_len);
 
 /* What the scan carries: the element that it is at, or none; or refused 100, 6. It looks at no column, so 6 is given only where a value is there when
- * fresh or ended, or is missing at an index. */
+ * fresh or ended, or is missing at an index. O(1). */
 loftsplice_answer loftsplice_scan_current(loftsplice_scan scan);
 
-/* The index that the scan is at, or none; or refused 100, 1, 2, 3, 6. */
+/* The index that the scan is at, or none; or refused 100, 1, 2, 3, 6. O(R). */
 loftsplice_position loftsplice_scan_pos(loftsplice_scan scan, const int64_t *starts, size_t starts_len, const uint64_t *ends, size_t ends_len,
     const int16_t *steps, size_t steps_len);
 
 /* ---- the interval filter. Bounds are two lists: values, or for variable bounds the numbers of inputs (from 0), and a kind for each. Inputs are
  * two lists: values, and for each 1 if it has a value, 0 if none. */
 
-/* A filter over a scan, in a mode, its constant bounds folded; or refused 100, 8, and then the filter's state is LOFTSPLICE_NO_STATE. */
+/* A filter over a scan, in a mode, its constant bounds folded; or refused 100, 8, and then the filter's state is LOFTSPLICE_NO_STATE. O(1). */
 loftsplice_new_filter loftsplice_filter_new(loftsplice_scan scan, uint32_t mode, const int64_t *lower_values, size_t lower_values_len,
     const uint8_t *lower_kinds, size_t lower_kinds_len, const int64_t *upper_values, size_t upper_values_len, const uint8_t *upper_kinds,
     size_t upper_kinds_len);
 
-/* To the next element that meets the bounds, or none; or refused 100, 1, 2, 3, 6, 8, 7, 9. */
+/* To the next element that meets the bounds, or none; or refused 100, 1, 2, 3, 6, 8, 7, 9. O(R). */
 loftsplice_sifted loftsplice_filter_next(loftsplice_filter filter, const int64_t *starts, size_t starts_len, const uint64_t *ends, size_t ends_len,
     const int16_t *steps, size_t steps_len, const uint64_t *lower_inputs, size_t lower_inputs_len, const uint8_t *lower_kinds,
     size_t lower_kinds_len, const uint64_t *upper_inputs, size_t upper_inputs_len, const uint8_t *upper_kinds, size_t upper_kinds_len,
     const int64_t *input_values, size_t input_values_len, const uint8_t *input_found, size_t input_found_len);
 
 /* To the first element from here on that meets the bounds and is not below the target, which is ignored Before without a lower bound; or refused
- * 100, 1, 2, 3, 6, 8, 7, 9. */
+ * 100, 1, 2, 3, 6, 8, 7, 9. O(R). */
 loftsplice_sifted loftsplice_filter_seek(loftsplice_filter filter, const int64_t *starts, size_t starts_len, const uint64_t *ends, size_t ends_len,
     const int16_t *steps, size_t steps_len, int64_t target, const uint64_t *lower_inputs, size_t lower_inputs_len, const uint8_t *lower_kinds,
     size_t lower_kinds_len, const uint64_t *upper_inputs, size_t upper_inputs_len, const uint8_t *upper_kinds, size_t upper_kinds_len,
     const int64_t *input_values, size_t input_values_len, const uint8_t *input_found, size_t input_found_len);
 
 /* What its scan carries when Within, else none; or refused 100, 6: in any state of the filter where loftsplice_scan_current of its scan is. It looks at
- * no column. */
+ * no column. O(1). */
 loftsplice_answer loftsplice_filter_current(loftsplice_filter filter);
 
-/* Before again, in the same mode, the scan as it stands; or refused 100. */
+/* Before again, in the same mode, the scan as it stands; or refused 100. O(1). */
 loftsplice_reset loftsplice_filter_reset(loftsplice_filter filter);
 
 /* ---- the batch listing */
 
 /* Writes the values of each window from[i]..to[i] that meet the constant bounds into out, window by window, and each window's number of values into
  * counts; answers their sum. One mode for all windows. What it does not fill stays as it was; a refusal writes nothing. Refused 100, 1, 2, 3, 8, 5, 7,
- * 10. */
+ * 10. O(R + W * R + N). */
 loftsplice_listed loftsplice_list(const int64_t *starts, size_t starts_len, const uint64_t *ends, size_t ends_len, const int16_t *steps,
     size_t steps_len, const uint64_t *from, size_t from_len, const uint64_t *to, size_t to_len, uint32_t mode, const int64_t *lower_values,
     size_t lower_values_len, const uint8_t *lower_kinds, size_t lower_kinds_len, const int64_t *upper_values, size_t upper_values_len,
@@ -265,11 +362,12 @@ loftsplice_listed loftsplice_list(const int64_t *starts, size_t starts_len, cons
 
 /* ---- the stored record */
 
-/* Reads the record at the front of bytes into the first places of the three lists; or refused 11, 13, 12, 10, 2, 3, and then nothing is written. */
+/* Reads the record at the front of bytes into the first places of the three lists, and does not read what follows it; or refused 11, 13, 12, 10, 2, 3,
+ * and then nothing is written. O(R), runs of the record. */
 loftsplice_read loftsplice_read_record(const uint8_t *bytes, size_t bytes_len, int64_t *starts, size_t starts_len, uint64_t *ends, size_t ends_len,
     int16_t *steps, size_t steps_len);
 
-/* Writes a column's record into the first places of out; or refused 1, 2, 3, 10, and then nothing is written. */
+/* Writes a column's record into the first places of out; or refused 1, 2, 3, 10, and then nothing is written. O(R). */
 loftsplice_written loftsplice_write_record(const int64_t *starts, size_t starts_len, const uint64_t *ends, size_t ends_len, const int16_t *steps,
     size_t steps_len, uint8_t *out, size_t out_len);
 

@@ -53,6 +53,9 @@ static const int16_t edge_steps[] = {1};
 static const column edge = COLUMN(edge_starts, edge_8, edge_steps);
 static const column past_edge = COLUMN(edge_starts, edge_9, edge_steps);
 
+/* The most bounds in a list, and one too many of each. */
+enum { most_bounds = LOFTSPLICE_MAX_BOUNDS, over_bounds, over_inputs = LOFTSPLICE_MAX_INPUTS + 1, over_windows = LOFTSPLICE_MAX_WINDOWS + 1 };
+
 /* Two scans, number by number. */
 static void same_scan_at(int line, loftsplice_scan got, loftsplice_scan wanted) {
     same_at("scan.start", line, (int64_t)got.start, (int64_t)wanted.start);
@@ -224,14 +227,6 @@ static void columns(void) {
     SAME(d.found, 0), SAME(d.step, 0);
     d = loftsplice_diff_step(INT64_MIN, INT64_MAX);
     SAME(d.found, 0), SAME(d.step, 0);
-
-    /* 4,096 runs pass, 4,097 are refused 1 */
-    static int64_t starts[4097];
-    static uint64_t ends[4097];
-    static int16_t steps[4097];
-    for (size_t i = 0; i < 4097; i++) starts[i] = (int64_t)i, ends[i] = i + 1;
-    SAME(loftsplice_check(starts, 4096, ends, 4096, steps, 4096), 0);
-    SAME(loftsplice_check(starts, 4097, ends, 4097, steps, 4097), LOFTSPLICE_SHAPE);
 }
 
 static void scans(void) {
@@ -369,18 +364,18 @@ static void carried(void) {
     /* the filter's calls: next and seek in any state, after 3 and before 8; current in any state, what is carried only when Within */
     loftsplice_scan bad[] = {fresh_with, ended_with, missing, wrong};
     static const uint32_t states[] = {LOFTSPLICE_BEFORE, LOFTSPLICE_WITHIN, LOFTSPLICE_AFTER};
-    static uint64_t many_inputs[17];
-    static uint8_t many_kinds[17];
+    static uint64_t many_inputs[over_bounds];
+    static uint8_t many_kinds[over_bounds];
     memset(many_kinds, LOFTSPLICE_INCLUSIVE, sizeof many_kinds);
-    lists l17 = no_lists;
-    l17.upper = many_inputs, l17.upper_len = 17, l17.upper_kinds = many_kinds, l17.upper_kinds_len = 17;
+    lists long_bounds = no_lists;
+    long_bounds.upper = many_inputs, long_bounds.upper_len = over_bounds, long_bounds.upper_kinds = many_kinds, long_bounds.upper_kinds_len = over_bounds;
     for (size_t i = 0; i < 4; i++)
         for (size_t k = 0; k < 3; k++) {
             loftsplice_filter f = fitted(bad[i], NULL, NULL, 0, NULL, NULL, 0);
             f.state = states[k];
             CALL_REFUSED(C, f, no_lists, LOFTSPLICE_SCAN);
-            CALL_REFUSED(C, f, l17, LOFTSPLICE_SCAN);
-            CALL_REFUSED(uneven, f, l17, LOFTSPLICE_SHAPE);
+            CALL_REFUSED(C, f, long_bounds, LOFTSPLICE_SCAN);
+            CALL_REFUSED(uneven, f, long_bounds, LOFTSPLICE_SHAPE);
             if (i < 3) REFUSED(loftsplice_filter_current(f), LOFTSPLICE_SCAN);
             else if (states[k] == LOFTSPLICE_WITHIN) VALUE(loftsplice_filter_current(f), 21);
             else NONE(loftsplice_filter_current(f));
@@ -488,36 +483,36 @@ static void filters(void) {
     loftsplice_filter within = next_of(f, C, l).filter;
     VALUE(next_of(within, C, missing).answer, 30);
 
-    /* 8: 17 bounds or 9 inputs, whatever the 17th is; 7 and 6 by their place in the order */
-    static int64_t many[17];
-    static uint64_t many_inputs[17];
-    static uint8_t many_kinds[17], many_found[9];
+    /* 8: one bound or input too many, whatever the last is; 7 and 6 by their place in the order */
+    static int64_t many[over_bounds];
+    static uint64_t many_inputs[over_bounds];
+    static uint8_t many_kinds[over_bounds], many_found[over_inputs];
     memset(many_kinds, LOFTSPLICE_INCLUSIVE, sizeof many_kinds);
-    loftsplice_new_filter n = loftsplice_filter_new(s, LOFTSPLICE_INCLUSIVE_WINS, many, 17, many_kinds, 17, NULL, 0, NULL, 0);
+    loftsplice_new_filter n = loftsplice_filter_new(s, LOFTSPLICE_INCLUSIVE_WINS, many, over_bounds, many_kinds, over_bounds, NULL, 0, NULL, 0);
     SAME(n.refusal, LOFTSPLICE_BOUNDS);
     loftsplice_limit free_limit = {0, LOFTSPLICE_FREE};
     loftsplice_filter no_filter = {{0, 0, 0, 0, LOFTSPLICE_NO_STATE, 0}, free_limit, free_limit, free_limit, LOFTSPLICE_NO_STATE, 0};
     FILTER(n.filter, no_filter);
-    n = loftsplice_filter_new(s, LOFTSPLICE_INCLUSIVE_WINS, NULL, 0, NULL, 0, many, 17, many_kinds, 17);
+    n = loftsplice_filter_new(s, LOFTSPLICE_INCLUSIVE_WINS, NULL, 0, NULL, 0, many, over_bounds, many_kinds, over_bounds);
     SAME(n.refusal, LOFTSPLICE_BOUNDS);
-    n = loftsplice_filter_new(s, LOFTSPLICE_INCLUSIVE_WINS, many, 16, many_kinds, 16, many, 16, many_kinds, 16);
+    n = loftsplice_filter_new(s, LOFTSPLICE_INCLUSIVE_WINS, many, most_bounds, many_kinds, most_bounds, many, most_bounds, many_kinds, most_bounds);
     SAME(n.refusal, 0), LIMIT(n.filter.lower, LOFTSPLICE_INCLUSIVE, 0);
-    many[15] = 12;
-    n = loftsplice_filter_new(s, LOFTSPLICE_INCLUSIVE_WINS, many, 16, many_kinds, 16, NULL, 0, NULL, 0);
+    many[most_bounds - 1] = 12;
+    n = loftsplice_filter_new(s, LOFTSPLICE_INCLUSIVE_WINS, many, most_bounds, many_kinds, most_bounds, NULL, 0, NULL, 0);
     SAME(n.refusal, 0), LIMIT(n.filter.lower, LOFTSPLICE_INCLUSIVE, 12);
-    lists l17 = no_lists, l9 = no_lists;
-    l17.upper = many_inputs, l17.upper_len = 17, l17.upper_kinds = many_kinds, l17.upper_kinds_len = 17;
-    l9.values = many, l9.values_len = 9, l9.found = many_found, l9.found_len = 9;
-    CALL_REFUSED(C, f, l17, LOFTSPLICE_BOUNDS);
-    CALL_REFUSED(C, f, l9, LOFTSPLICE_BOUNDS);
+    lists long_bounds = no_lists, long_inputs = no_lists;
+    long_bounds.upper = many_inputs, long_bounds.upper_len = over_bounds, long_bounds.upper_kinds = many_kinds, long_bounds.upper_kinds_len = over_bounds;
+    long_inputs.values = many, long_inputs.values_len = over_inputs, long_inputs.found = many_found, long_inputs.found_len = over_inputs;
+    CALL_REFUSED(C, f, long_bounds, LOFTSPLICE_BOUNDS);
+    CALL_REFUSED(C, f, long_inputs, LOFTSPLICE_BOUNDS);
     loftsplice_filter over_d = fitted(fresh(D), NULL, NULL, 0, NULL, NULL, 0);
     CALL_REFUSED(D, over_d, no_lists, LOFTSPLICE_ORDER);
     CALL_REFUSED(D, over_d, missing, LOFTSPLICE_ORDER);
-    CALL_REFUSED(D, over_d, l17, LOFTSPLICE_BOUNDS);
-    CALL_REFUSED(uneven, f, l17, LOFTSPLICE_SHAPE);
+    CALL_REFUSED(D, over_d, long_bounds, LOFTSPLICE_BOUNDS);
+    CALL_REFUSED(uneven, f, long_bounds, LOFTSPLICE_SHAPE);
     loftsplice_scan bad_scan = {0, 10, 0, 0, LOFTSPLICE_FRESH, 0};
     loftsplice_filter over_bad = fitted(bad_scan, NULL, NULL, 0, NULL, NULL, 0);
-    CALL_REFUSED(C, over_bad, l17, LOFTSPLICE_SCAN);
+    CALL_REFUSED(C, over_bad, long_bounds, LOFTSPLICE_SCAN);
     NONE(loftsplice_filter_current(over_bad));
 
     /* 100: lists of unequal length, kinds that are none, also in a list that is too long; before all others */
@@ -526,10 +521,10 @@ static void filters(void) {
     FILTER(n.filter, no_filter);
     n = loftsplice_filter_new(s, LOFTSPLICE_INCLUSIVE_WINS, NULL, 0, NULL, 0, at_15, 1, both, 2);
     SAME(n.refusal, LOFTSPLICE_FORM);
-    many_kinds[16] = LOFTSPLICE_FREE;
-    n = loftsplice_filter_new(s, LOFTSPLICE_INCLUSIVE_WINS, many, 17, many_kinds, 17, NULL, 0, NULL, 0);
+    many_kinds[most_bounds] = LOFTSPLICE_FREE;
+    n = loftsplice_filter_new(s, LOFTSPLICE_INCLUSIVE_WINS, many, over_bounds, many_kinds, over_bounds, NULL, 0, NULL, 0);
     SAME(n.refusal, LOFTSPLICE_FORM);
-    many_kinds[16] = LOFTSPLICE_EXCLUSIVE;
+    many_kinds[most_bounds] = LOFTSPLICE_EXCLUSIVE;
     for (unsigned kind = 0; kind < 256; kind++) {
         uint8_t k = (uint8_t)kind;
         int good = kind == LOFTSPLICE_INCLUSIVE || kind == LOFTSPLICE_EXCLUSIVE;
@@ -541,7 +536,7 @@ static void filters(void) {
     }
     static const uint32_t no_mode[] = {0, 3, 4, 100, UINT32_MAX};
     for (size_t i = 0; i < sizeof no_mode / sizeof *no_mode; i++) {
-        n = loftsplice_filter_new(s, no_mode[i], many, 17, many_kinds, 17, NULL, 0, NULL, 0);
+        n = loftsplice_filter_new(s, no_mode[i], many, over_bounds, many_kinds, over_bounds, NULL, 0, NULL, 0);
         SAME(n.refusal, LOFTSPLICE_FORM);
         FILTER(n.filter, no_filter);
     }
@@ -561,7 +556,7 @@ static void filters(void) {
     for (size_t i = 0; i < 8; i++) {
         bad[i].kept.value = 99;
         CALL_REFUSED(C, bad[i], no_lists, LOFTSPLICE_FORM);
-        CALL_REFUSED(uneven, bad[i], l17, LOFTSPLICE_FORM);
+        CALL_REFUSED(uneven, bad[i], long_bounds, LOFTSPLICE_FORM);
         REFUSED(loftsplice_filter_current(bad[i]), LOFTSPLICE_FORM);
         r = loftsplice_filter_reset(bad[i]);
         SAME(r.refusal, LOFTSPLICE_FORM);
@@ -618,8 +613,8 @@ static void listings(void) {
         SAME(l.refusal, good ? 0 : LOFTSPLICE_FORM), SAME(l.sum, good ? 1 + two : 0), SAME(number[0], good ? 1 + two : 99);
         SAME(out[0], good ? 30 : -77), SAME(out[1], two ? 31 : -77);
     }
-    static uint64_t many[257];
-    LISTING(C, many, 257, many, 257, above, 1, exclusive, 1, 8, 4, LOFTSPLICE_BOUNDS, all, 0, counts, 0);
+    static uint64_t many[over_windows];
+    LISTING(C, many, over_windows, many, over_windows, above, 1, exclusive, 1, 8, 4, LOFTSPLICE_BOUNDS, all, 0, counts, 0);
 }
 
 static void records(void) {

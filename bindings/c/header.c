@@ -1,0 +1,108 @@
+/* What the header gives by itself: names, limits and layout, beside README's example. Written in what C99, C11 and C++11 share: scripts/c-test compiles
+ * and runs it as each. The last line says how many comparisons were made; the exit status is 1 if one failed. */
+#include "loftsplice.h"
+#include "loftsplice.h" /* a second time does no harm */
+
+#include <stdio.h>
+#include <string.h>
+
+static unsigned long made, failed;
+
+static void holds_at(const char *what, int line, int is) {
+    made++;
+    if (!is) {
+        failed++;
+        fprintf(stderr, "header.c:%d: not so: %s\n", line, what);
+    }
+}
+#define HOLDS(test) holds_at(#test, __LINE__, (test) ? 1 : 0)
+
+#if LOFTSPLICE_MAX_RUNS < LOFTSPLICE_MAX_WINDOWS || LOFTSPLICE_MAX_BOUNDS < LOFTSPLICE_MAX_INPUTS || LOFTSPLICE_MAX_RECORD < LOFTSPLICE_MAX_RUNS
+#error "the limits are numbers for the preprocessor too"
+#endif
+
+enum { over_runs = LOFTSPLICE_MAX_RUNS + 1, over_bounds = LOFTSPLICE_MAX_BOUNDS + 1, over_inputs = LOFTSPLICE_MAX_INPUTS + 1 };
+enum { over_windows = LOFTSPLICE_MAX_WINDOWS + 1 };
+
+static int64_t starts[over_runs];
+static uint64_t ends[over_runs];
+static int16_t steps[over_runs];
+
+static uint32_t check(size_t runs) { return loftsplice_check(starts, runs, ends, runs, steps, runs); }
+
+/* Each limit: met, and passed by one. */
+static void column_limits(void) {
+    for (size_t i = 0; i < over_runs; i++) starts[i] = (int64_t)i, ends[i] = i + 1;
+    HOLDS(check(LOFTSPLICE_MAX_RUNS) == 0);
+    HOLDS(check(over_runs) == LOFTSPLICE_SHAPE);
+    static uint8_t bytes[LOFTSPLICE_MAX_RECORD];
+    loftsplice_written written = loftsplice_write_record(starts, LOFTSPLICE_MAX_RUNS, ends, LOFTSPLICE_MAX_RUNS, steps, LOFTSPLICE_MAX_RUNS, bytes,
+        sizeof bytes);
+    HOLDS(written.refusal == 0 && written.bytes == LOFTSPLICE_MAX_RECORD);
+    written = loftsplice_write_record(starts, LOFTSPLICE_MAX_RUNS, ends, LOFTSPLICE_MAX_RUNS, steps, LOFTSPLICE_MAX_RUNS, bytes, sizeof bytes - 1);
+    HOLDS(written.refusal == LOFTSPLICE_ROOM);
+    loftsplice_read read = loftsplice_read_record(bytes, sizeof bytes, starts, over_runs, ends, over_runs, steps, over_runs);
+    HOLDS(read.refusal == 0 && read.runs == LOFTSPLICE_MAX_RUNS && read.used == LOFTSPLICE_MAX_RECORD);
+    /* the length that a record of one run more would have */
+    uint32_t length = LOFTSPLICE_MAX_RECORD - 4 + 14;
+    for (int i = 0; i < 4; i++) bytes[i] = (uint8_t)(length >> 8 * i);
+    HOLDS(loftsplice_read_record(bytes, sizeof bytes, starts, over_runs, ends, over_runs, steps, over_runs).refusal == LOFTSPLICE_SIZE);
+    steps[0] = 0;
+    ends[0] = LOFTSPLICE_MAX_ELEMENTS;
+    HOLDS(check(1) == 0);
+    ends[0]++;
+    HOLDS(check(1) == LOFTSPLICE_ENDS);
+}
+
+static void other_limits(void) {
+    static int64_t values[over_bounds];
+    static uint8_t kinds[over_bounds], found[over_inputs];
+    static uint64_t windows[over_windows], counts[over_windows];
+    memset(kinds, LOFTSPLICE_INCLUSIVE, sizeof kinds);
+    starts[0] = 0, ends[0] = 1, steps[0] = 0;
+    loftsplice_scan scan = loftsplice_scan_new(starts, 1, ends, 1, steps, 1).scan;
+    for (size_t more = 0; more < 2; more++) {
+        size_t bounds = LOFTSPLICE_MAX_BOUNDS + more, inputs = LOFTSPLICE_MAX_INPUTS + more, number = LOFTSPLICE_MAX_WINDOWS + more;
+        uint32_t refusal = more == 0 ? 0 : LOFTSPLICE_BOUNDS;
+        HOLDS(loftsplice_filter_new(scan, LOFTSPLICE_INCLUSIVE_WINS, values, bounds, kinds, bounds, NULL, 0, NULL, 0).refusal == refusal);
+        loftsplice_filter filter = loftsplice_filter_new(scan, LOFTSPLICE_INCLUSIVE_WINS, NULL, 0, NULL, 0, NULL, 0, NULL, 0).filter;
+        HOLDS(loftsplice_filter_next(filter, starts, 1, ends, 1, steps, 1, NULL, 0, NULL, 0, NULL, 0, NULL, 0, values, inputs, found, inputs)
+                  .answer.refusal == refusal);
+        HOLDS(loftsplice_list(starts, 1, ends, 1, steps, 1, windows, number, windows, number, LOFTSPLICE_INCLUSIVE_WINS, NULL, 0, NULL, 0, NULL, 0, NULL,
+                  0, NULL, 0, counts, over_windows).refusal == refusal);
+    }
+}
+
+#define NAME(word) {LOFTSPLICE_##word, #word}
+static const struct { uint32_t number; const char *name; } names[] = {{0, "accepted"}, NAME(SHAPE), NAME(ENDS), NAME(REACH), NAME(INDEX), NAME(WINDOW),
+    NAME(SCAN), NAME(ORDER), NAME(BOUNDS), NAME(INPUT), NAME(ROOM), NAME(CUT), NAME(KIND), NAME(SIZE), NAME(FORM)};
+
+static void refusal_names(void) {
+    for (uint32_t number = 0; number < 1000; number++) {
+        const char *wanted = "unknown";
+        for (size_t i = 0; i < sizeof names / sizeof *names; i++)
+            if (names[i].number == number) wanted = names[i].name;
+        HOLDS(strcmp(loftsplice_refusal_name(number), wanted) == 0);
+    }
+    HOLDS(strcmp(loftsplice_refusal_name(UINT32_MAX), "unknown") == 0);
+}
+
+static void readme(void) {
+    int64_t few_starts[] = {10, 30};
+    uint64_t few_ends[] = {4, 5};
+    int16_t few_steps[] = {5, 0};
+    loftsplice_new_scan made_scan = loftsplice_scan_new(few_starts, 2, few_ends, 2, few_steps, 2);
+    loftsplice_moved moved = loftsplice_scan_seek(made_scan.scan, few_starts, 2, few_ends, 2, few_steps, 2, 16);
+    HOLDS(moved.answer.refusal == 0 && moved.answer.found == 1 && moved.answer.value == 20);
+    moved = loftsplice_scan_seek(made_scan.scan, few_starts, 2, few_ends, 1, few_steps, 2, 16);
+    HOLDS(strcmp(loftsplice_refusal_name(moved.answer.refusal), "SHAPE") == 0);
+}
+
+int main(void) {
+    column_limits();
+    other_limits();
+    refusal_names();
+    readme();
+    printf("header: %lu comparisons, %lu failed\n", made, failed);
+    return failed != 0;
+}
