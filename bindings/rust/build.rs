@@ -1,4 +1,4 @@
-//! Links the proved archive, libloftsplice.a: from the folder that LOFTSPLICE_LIB names, or from this repository's target/staticlib.
+//! Links the proved archive, libloftsplice.a: from the folder that `LOFTSPLICE_LIB` names, or from this repository's target/staticlib.
 use std::env;
 use std::path::PathBuf;
 

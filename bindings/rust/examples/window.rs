@@ -17,7 +17,7 @@ fn main() -> Result<(), Box<dyn Error>> {
     let column = record.column();
     // a window has at most as many values as indices in the column
     let places = window.end.min(column.len()).saturating_sub(window.start);
-    let (mut values, mut counts) = (vec![0; places as usize], [0]);
+    let (mut values, mut counts) = (vec![0; usize::try_from(places)?], [0]);
     let sum = list(
         column,
         std::slice::from_ref(&window),

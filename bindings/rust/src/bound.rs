@@ -1,3 +1,6 @@
+use alloc::vec::Vec;
+use core::{error, fmt, ops};
+
 use crate::raw;
 
 /// A bound, inclusive or exclusive: of a value, or, as `Bound<usize>`, of what the input with that number gives.
@@ -10,6 +13,26 @@ use crate::raw;
 /// assert_ne!(at_most_40, Bound::Exclusive(40));
 /// # let _ = below_the_second_input;
 /// ```
+///
+/// A bound of `std::ops` becomes one of these by `try_from`, unless it is unbounded, which is no bound; so the two ends of any range become lists of
+/// bounds. The other way it is `from`.
+///
+/// ```
+/// use std::ops::{self, RangeBounds};
+///
+/// use loftsplice::{Bound, Column, Filter, Unbounded};
+///
+/// let column = Column::new(&[10], &[4], &[5])?; // 10 15 20 25
+/// let range = ..20;
+/// let lower = Bound::try_from(range.start_bound().cloned()).ok();
+/// let upper = Bound::try_from(range.end_bound().cloned()).ok();
+/// let filter = Filter::new(column.scan(), lower.as_slice(), upper.as_slice())?;
+/// assert_eq!(filter.values().collect::<Result<Vec<_>, _>>()?, [10, 15]);
+///
+/// assert_eq!(Bound::try_from(ops::Bound::<i64>::Unbounded), Err(Unbounded));
+/// assert_eq!(ops::Bound::from(Bound::Exclusive(20)), ops::Bound::Excluded(20));
+/// # Ok::<(), loftsplice::Refusal>(())
+/// ```
 #[derive(Clone, Copy, Debug, PartialEq, Eq, Hash)]
 pub enum Bound<T = i64> {
     /// The value itself meets the bound.
@@ -17,6 +40,47 @@ pub enum Bound<T = i64> {
     /// The value itself does not meet the bound.
     Exclusive(T),
 }
+
+impl<T> From<Bound<T>> for ops::Bound<T> {
+    fn from(bound: Bound<T>) -> Self {
+        match bound {
+            Bound::Inclusive(value) => ops::Bound::Included(value),
+            Bound::Exclusive(value) => ops::Bound::Excluded(value),
+        }
+    }
+}
+
+impl<T> TryFrom<ops::Bound<T>> for Bound<T> {
+    type Error = Unbounded;
+
+    fn try_from(bound: ops::Bound<T>) -> Result<Self, Unbounded> {
+        match bound {
+            ops::Bound::Included(value) => Ok(Bound::Inclusive(value)),
+            ops::Bound::Excluded(value) => Ok(Bound::Exclusive(value)),
+            ops::Bound::Unbounded => Err(Unbounded),
+        }
+    }
+}
+
+/// A range is unbounded on that side: there is no [`Bound`].
+///
+/// ```
+/// use loftsplice::{Bound, Unbounded};
+///
+/// let none = Bound::try_from(std::ops::Bound::<i64>::Unbounded).unwrap_err();
+/// assert_eq!(none, Unbounded);
+/// assert_eq!(none.to_string(), "unbounded, which is no bound");
+/// ```
+#[derive(Clone, Copy, Debug, PartialEq, Eq, Hash)]
+pub struct Unbounded;
+
+impl fmt::Display for Unbounded {
+    fn fmt(&self, to: &mut fmt::Formatter<'_>) -> fmt::Result {
+        to.write_str("unbounded, which is no bound")
+    }
+}
+
+impl error::Error for Unbounded {}
 
 /// Which of two upper bounds of one value wins, in a filter or a listing. Lower bounds are the same in both modes.
 ///
@@ -41,7 +105,7 @@ pub enum Mode {
 
 impl Mode {
     /// The mode's number.
-    pub(crate) fn number(self) -> u32 {
+    pub(crate) const fn number(self) -> u32 {
         match self {
             Mode::InclusiveWins => raw::INCLUSIVE_WINS,
             Mode::ExclusiveWins => raw::EXCLUSIVE_WINS,
@@ -60,7 +124,7 @@ impl Mode {
 /// assert_eq!(filter.next_with(above_the_first_input)?, Some(20));
 /// # Ok::<(), loftsplice::Refusal>(())
 /// ```
-#[derive(Clone, Copy, Debug, Default)]
+#[derive(Clone, Copy, Debug, Default, PartialEq, Eq, Hash)]
 pub struct Variables<'a> {
     /// Lower bounds, by the numbers of inputs, from 0.
     pub lower: &'a [Bound<usize>],
@@ -71,6 +135,10 @@ pub struct Variables<'a> {
 }
 
 /// A list of bounds as two lists: what is bounded, and the kinds.
+#[allow(
+    clippy::cast_possible_truncation,
+    reason = "the kinds are 1 and 2; a list of them crosses as bytes"
+)]
 pub(crate) fn lists<T: Copy, U>(bounds: &[Bound<T>], number: impl Fn(T) -> U) -> (Vec<U>, Vec<u8>) {
     bounds
         .iter()
@@ -82,7 +150,7 @@ pub(crate) fn lists<T: Copy, U>(bounds: &[Bound<T>], number: impl Fn(T) -> U) ->
 }
 
 /// A limit that the library gave.
-pub(crate) fn limit(limit: raw::Limit) -> Option<Bound> {
+pub(crate) const fn limit(limit: raw::Limit) -> Option<Bound> {
     match limit.kind {
         raw::INCLUSIVE => Some(Bound::Inclusive(limit.value)),
         raw::EXCLUSIVE => Some(Bound::Exclusive(limit.value)),

@@ -1,6 +1,7 @@
-use crate::{raw, Refusal, Scan};
+use crate::{raw, Refusal, Runs, Scan};
 
-/// A column that is checked: run starts, run ends (counted from the column's beginning) and steps, all borrowed.
+/// A column that is checked: run starts, run ends (counted from the column's beginning) and steps, all borrowed. [`ColumnBuf`](crate::ColumnBuf) owns
+/// them. The default is the empty column.
 ///
 /// ```
 /// use loftsplice::{Column, Refusal};
@@ -11,7 +12,7 @@ use crate::{raw, Refusal, Scan};
 /// assert_eq!(Column::new(&[10], &[2, 5], &[-5, 1]).unwrap_err(), Refusal::Shape);
 /// # Ok::<(), Refusal>(())
 /// ```
-#[derive(Clone, Copy, Debug, PartialEq, Eq)]
+#[derive(Clone, Copy, Debug, Default, PartialEq, Eq, Hash)]
 pub struct Column<'a> {
     starts: &'a [i64],
     ends: &'a [u64],
@@ -27,7 +28,7 @@ pub struct Column<'a> {
 /// assert_eq!(column.place(3)?, Place { run: 1, offset: 1, follows: 2 });
 /// # Ok::<(), loftsplice::Refusal>(())
 /// ```
-#[derive(Clone, Copy, Debug, PartialEq, Eq)]
+#[derive(Clone, Copy, Debug, PartialEq, Eq, Hash)]
 pub struct Place {
     /// The run.
     pub run: usize,
@@ -38,7 +39,7 @@ pub struct Place {
 }
 
 impl<'a> Column<'a> {
-    /// The column of three lists; or refused [`Refusal::Shape`], [`Refusal::Ends`], [`Refusal::Reach`].
+    /// The column of three lists.
     ///
     /// ```
     /// use loftsplice::{Column, Refusal};
@@ -46,6 +47,10 @@ impl<'a> Column<'a> {
     /// assert!(Column::new(&[9223372036854775800], &[8], &[1]).is_ok());
     /// assert_eq!(Column::new(&[9223372036854775800], &[9], &[1]).unwrap_err(), Refusal::Reach);
     /// ```
+    ///
+    /// # Errors
+    ///
+    /// [`Refusal::Shape`], [`Refusal::Ends`], [`Refusal::Reach`].
     pub fn new(
         starts: &'a [i64],
         ends: &'a [u64],
@@ -62,7 +67,7 @@ impl<'a> Column<'a> {
     }
 
     /// The column of three lists that the library gave as one.
-    pub(crate) fn read(starts: &'a [i64], ends: &'a [u64], steps: &'a [i16]) -> Column<'a> {
+    pub(crate) const fn read(starts: &'a [i64], ends: &'a [u64], steps: &'a [i16]) -> Column<'a> {
         Column {
             starts,
             ends,
@@ -76,7 +81,8 @@ impl<'a> Column<'a> {
     /// assert_eq!(loftsplice::Column::new(&[7], &[2], &[1])?.starts(), [7]);
     /// # Ok::<(), loftsplice::Refusal>(())
     /// ```
-    pub fn starts(&self) -> &'a [i64] {
+    #[must_use]
+    pub const fn starts(&self) -> &'a [i64] {
         self.starts
     }
 
@@ -86,7 +92,8 @@ impl<'a> Column<'a> {
     /// assert_eq!(loftsplice::Column::new(&[7], &[2], &[1])?.ends(), [2]);
     /// # Ok::<(), loftsplice::Refusal>(())
     /// ```
-    pub fn ends(&self) -> &'a [u64] {
+    #[must_use]
+    pub const fn ends(&self) -> &'a [u64] {
         self.ends
     }
 
@@ -96,31 +103,37 @@ impl<'a> Column<'a> {
     /// assert_eq!(loftsplice::Column::new(&[7], &[2], &[1])?.steps(), [1]);
     /// # Ok::<(), loftsplice::Refusal>(())
     /// ```
-    pub fn steps(&self) -> &'a [i16] {
+    #[must_use]
+    pub const fn steps(&self) -> &'a [i16] {
         self.steps
     }
 
-    /// The number of elements.
+    /// The number of elements: the last run's end. It makes no call.
     ///
     /// ```
     /// assert_eq!(loftsplice::Column::new(&[7, 9], &[2, 10], &[1, 0])?.len(), 10);
     /// # Ok::<(), loftsplice::Refusal>(())
     /// ```
-    pub fn len(&self) -> u64 {
-        raw::len(self.starts, self.ends, self.steps).length
+    #[must_use]
+    pub const fn len(&self) -> u64 {
+        match self.ends.last() {
+            Some(end) => *end,
+            None => 0,
+        }
     }
 
-    /// Whether there is no element.
+    /// Whether there is no element: every run has one, so there is no run. It makes no call.
     ///
     /// ```
     /// assert!(loftsplice::Column::new(&[], &[], &[])?.is_empty());
     /// # Ok::<(), loftsplice::Refusal>(())
     /// ```
-    pub fn is_empty(&self) -> bool {
-        raw::is_empty(self.starts, self.ends, self.steps).empty == 1
+    #[must_use]
+    pub const fn is_empty(&self) -> bool {
+        self.ends.is_empty()
     }
 
-    /// The place of an index, (run count, 0, 0) for the length; or refused [`Refusal::Index`].
+    /// The place of an index, (run count, 0, 0) for the length.
     ///
     /// ```
     /// use loftsplice::{Column, Place, Refusal};
@@ -139,19 +152,23 @@ impl<'a> Column<'a> {
     /// assert_eq!(stretches, [(0, 0..2), (1, 2..10)]);
     /// # Ok::<(), Refusal>(())
     /// ```
+    ///
+    /// # Errors
+    ///
+    /// [`Refusal::Index`] above the length.
     pub fn place(&self, index: u64) -> Result<Place, Refusal> {
         let place = raw::place(self.starts, self.ends, self.steps, index);
         Refusal::or(
             place.refusal,
             Place {
-                run: place.run as usize,
+                run: raw::places(place.run),
                 offset: place.offset,
                 follows: place.follows,
             },
         )
     }
 
-    /// The element at an index; or refused [`Refusal::Index`].
+    /// The element at an index.
     ///
     /// ```
     /// use loftsplice::{Column, Refusal};
@@ -161,9 +178,59 @@ impl<'a> Column<'a> {
     /// assert_eq!(column.get(3).unwrap_err(), Refusal::Index);
     /// # Ok::<(), Refusal>(())
     /// ```
+    ///
+    /// # Errors
+    ///
+    /// [`Refusal::Index`] at or above the length.
     pub fn get(&self, index: u64) -> Result<i64, Refusal> {
         let answer = raw::get(self.starts, self.ends, self.steps, index);
         Refusal::or(answer.refusal, answer.value)
+    }
+
+    /// The first element: the first run's start. It makes no call.
+    ///
+    /// ```
+    /// use loftsplice::Column;
+    ///
+    /// assert_eq!(Column::new(&[7, 1], &[3, 5], &[2, 0])?.first(), Some(7));
+    /// assert_eq!(Column::default().first(), None);
+    /// # Ok::<(), loftsplice::Refusal>(())
+    /// ```
+    #[must_use]
+    pub const fn first(&self) -> Option<i64> {
+        match self.starts.first() {
+            Some(start) => Some(*start),
+            None => None,
+        }
+    }
+
+    /// The last element.
+    ///
+    /// ```
+    /// use loftsplice::Column;
+    ///
+    /// assert_eq!(Column::new(&[7, 1], &[3, 5], &[2, -4])?.last(), Some(-3));
+    /// assert_eq!(Column::default().last(), None);
+    /// # Ok::<(), loftsplice::Refusal>(())
+    /// ```
+    #[must_use]
+    pub fn last(&self) -> Option<i64> {
+        self.get(self.len().checked_sub(1)?).ok()
+    }
+
+    /// The runs, in order.
+    ///
+    /// ```
+    /// use loftsplice::{Column, Run};
+    ///
+    /// let column = Column::new(&[10, 6], &[2, 5], &[-5, 1])?; // 10 5, 6 7 8
+    /// let runs: Vec<Run> = column.runs().collect();
+    /// assert_eq!(runs, [Run { start: 10, step: -5, elements: 2 }, Run { start: 6, step: 1, elements: 3 }]);
+    /// # Ok::<(), loftsplice::Refusal>(())
+    /// ```
+    #[must_use]
+    pub fn runs(&self) -> Runs<'a> {
+        Runs::of(*self)
     }
 
     /// A fresh scan over the whole column.
@@ -173,11 +240,44 @@ impl<'a> Column<'a> {
     /// assert_eq!(column.scan().collect::<Vec<_>>(), [7, 9, 11]);
     /// # Ok::<(), loftsplice::Refusal>(())
     /// ```
+    #[must_use]
     pub fn scan(&self) -> Scan<'a> {
         Scan::over(
             *self,
             raw::scan_new(self.starts, self.ends, self.steps).scan,
         )
+    }
+
+    /// The elements: a fresh scan, under the name that iterators have.
+    ///
+    /// ```
+    /// let column = loftsplice::Column::new(&[7], &[3], &[2])?;
+    /// assert_eq!(column.iter().max(), Some(11));
+    /// # Ok::<(), loftsplice::Refusal>(())
+    /// ```
+    #[must_use]
+    pub fn iter(&self) -> Scan<'a> {
+        self.scan()
+    }
+}
+
+/// Its elements.
+///
+/// ```
+/// let column = loftsplice::Column::new(&[7], &[3], &[2])?;
+/// let mut sum = 0;
+/// for element in &column {
+///     sum += element;
+/// }
+/// assert_eq!(sum, 27);
+/// # Ok::<(), loftsplice::Refusal>(())
+/// ```
+impl<'a> IntoIterator for &Column<'a> {
+    type Item = i64;
+    type IntoIter = Scan<'a>;
+
+    fn into_iter(self) -> Scan<'a> {
+        self.iter()
     }
 }
 
@@ -190,6 +290,7 @@ impl<'a> Column<'a> {
 /// assert_eq!(diff_step(0, 32_768), None);
 /// assert_eq!(diff_step(i64::MIN, i64::MAX), None);
 /// ```
+#[must_use]
 pub fn diff_step(previous: i64, current: i64) -> Option<i16> {
     let difference = raw::diff_step(previous, current);
     (difference.found == 1).then_some(difference.step)

@@ -1,5 +1,12 @@
-use crate::bound::{limit, lists};
+use alloc::vec::Vec;
+
+use crate::bound::lists;
 use crate::{raw, Bound, Mode, Refusal, Scan, Variables};
+
+mod held;
+mod values;
+
+pub use values::Values;
 
 /// The state of a filter.
 ///
@@ -14,9 +21,10 @@ use crate::{raw, Bound, Mode, Refusal, Scan, Variables};
 /// assert_eq!(filter.state(), FilterState::After);
 /// # Ok::<(), loftsplice::Refusal>(())
 /// ```
-#[derive(Clone, Copy, Debug, PartialEq, Eq)]
+#[derive(Clone, Copy, Debug, Default, PartialEq, Eq, Hash)]
 pub enum FilterState {
     /// No call has moved it yet, or it was reset.
+    #[default]
     Before,
     /// At an element, with the upper bound that is kept.
     Within(Option<Bound>),
@@ -36,7 +44,7 @@ pub enum FilterState {
 /// assert_eq!(filter.next()?, None);
 /// # Ok::<(), loftsplice::Refusal>(())
 /// ```
-#[derive(Clone, Debug, PartialEq, Eq)]
+#[derive(Clone, Debug, PartialEq, Eq, Hash)]
 pub struct Filter<'a> {
     scan: Scan<'a>,
     filter: raw::Filter,
@@ -44,7 +52,7 @@ pub struct Filter<'a> {
 
 impl<'a> Filter<'a> {
     /// A filter over a scan as it stands, in the mode [`Mode::InclusiveWins`]. The lower bound is the greatest of the list, the upper the least, where of
-    /// equal values the inclusive one is the lesser; an empty list gives none. Refused [`Refusal::Bounds`] for over 16 bounds in a list.
+    /// equal values the inclusive one is the lesser; an empty list gives none.
     ///
     /// ```
     /// use loftsplice::{Bound, Column, Filter, Refusal};
@@ -55,6 +63,10 @@ impl<'a> Filter<'a> {
     /// assert_eq!(Filter::new(scan, &[Bound::Inclusive(9); 17], &[]).unwrap_err(), Refusal::Bounds);
     /// # Ok::<(), Refusal>(())
     /// ```
+    ///
+    /// # Errors
+    ///
+    /// [`Refusal::Bounds`] for over 16 bounds in a list ([`raw::MAX_BOUNDS`]).
     pub fn new(scan: Scan<'a>, lower: &[Bound], upper: &[Bound]) -> Result<Filter<'a>, Refusal> {
         Filter::in_mode(Mode::default(), scan, lower, upper)
     }
@@ -71,6 +83,10 @@ impl<'a> Filter<'a> {
     /// assert_eq!(filter.next()?, None);
     /// # Ok::<(), loftsplice::Refusal>(())
     /// ```
+    ///
+    /// # Errors
+    ///
+    /// As [`Filter::new`].
     pub fn in_mode(
         mode: Mode,
         scan: Scan<'a>,
@@ -79,7 +95,7 @@ impl<'a> Filter<'a> {
     ) -> Result<Filter<'a>, Refusal> {
         let (lows, low_kinds) = lists(lower, |value| value);
         let (ups, up_kinds) = lists(upper, |value| value);
-        let made = raw::filter_new(
+        let fitted = raw::filter_new(
             scan.raw(),
             mode.number(),
             &lows,
@@ -88,15 +104,15 @@ impl<'a> Filter<'a> {
             &up_kinds,
         );
         Refusal::or(
-            made.refusal,
+            fitted.refusal,
             Filter {
                 scan,
-                filter: made.filter,
+                filter: fitted.filter,
             },
         )
     }
 
-    /// The next element that meets the bounds, or none; or refused [`Refusal::Order`].
+    /// The next element that meets the bounds, or none.
     ///
     /// ```
     /// let mut filter = loftsplice::Filter::new(loftsplice::Column::new(&[7], &[1], &[0])?.scan(), &[], &[])?;
@@ -104,14 +120,19 @@ impl<'a> Filter<'a> {
     /// assert_eq!(filter.next()?, None);
     /// # Ok::<(), loftsplice::Refusal>(())
     /// ```
-    // An iterator's `next` can't be refused; `values` is the iterator.
-    #[allow(clippy::should_implement_trait)]
+    ///
+    /// # Errors
+    ///
+    /// [`Refusal::Order`] if the scan's window doesn't rise.
+    #[allow(
+        clippy::should_implement_trait,
+        reason = "an iterator's `next` can't be refused; `values` is the iterator"
+    )]
     pub fn next(&mut self) -> Result<Option<i64>, Refusal> {
         self.next_with(Variables::default())
     }
 
-    /// The same with variable bounds, which are read only while the filter is before; or refused [`Refusal::Bounds`], [`Refusal::Order`],
-    /// [`Refusal::Input`].
+    /// The same with variable bounds, which are read only while the filter is before.
     ///
     /// ```
     /// use loftsplice::{Bound, Column, Filter, Refusal, Variables};
@@ -124,6 +145,10 @@ impl<'a> Filter<'a> {
     /// assert_eq!(filter.next_with(there)?, Some(9));
     /// # Ok::<(), Refusal>(())
     /// ```
+    ///
+    /// # Errors
+    ///
+    /// [`Refusal::Bounds`] for over 16 bounds in a list or over 8 inputs ([`raw::MAX_INPUTS`]), [`Refusal::Order`], [`Refusal::Input`].
     pub fn next_with(&mut self, variables: Variables<'_>) -> Result<Option<i64>, Refusal> {
         let column = self.scan.column();
         let filter = self.filter;
@@ -138,8 +163,8 @@ impl<'a> Filter<'a> {
         })
     }
 
-    /// The first element from here on that is not below the target and meets the bounds, or none; or refused [`Refusal::Order`]. Without a lower bound
-    /// the first call ignores the target.
+    /// The first element from here on that is not below the target and meets the bounds, or none. Without a lower bound the first call ignores the
+    /// target.
     ///
     /// ```
     /// use loftsplice::{Bound, Column, Filter};
@@ -151,12 +176,15 @@ impl<'a> Filter<'a> {
     /// assert_eq!(free.seek(16)?, Some(10));
     /// # Ok::<(), loftsplice::Refusal>(())
     /// ```
+    ///
+    /// # Errors
+    ///
+    /// [`Refusal::Order`] if the scan's window doesn't rise.
     pub fn seek(&mut self, target: i64) -> Result<Option<i64>, Refusal> {
         self.seek_with(target, Variables::default())
     }
 
-    /// The same with variable bounds, which are read only while the filter is before; or refused [`Refusal::Bounds`], [`Refusal::Order`],
-    /// [`Refusal::Input`].
+    /// The same with variable bounds, which are read only while the filter is before.
     ///
     /// ```
     /// use loftsplice::{Bound, Column, Filter, Variables};
@@ -167,6 +195,10 @@ impl<'a> Filter<'a> {
     /// assert_eq!(filter.next()?, None);
     /// # Ok::<(), loftsplice::Refusal>(())
     /// ```
+    ///
+    /// # Errors
+    ///
+    /// As [`Filter::next_with`].
     pub fn seek_with(
         &mut self,
         target: i64,
@@ -214,20 +246,6 @@ impl<'a> Filter<'a> {
         )
     }
 
-    /// The element that the filter stands on, or none. Its scan carries it: the column is not looked at.
-    ///
-    /// ```
-    /// let mut filter = loftsplice::Filter::new(loftsplice::Column::new(&[7], &[1], &[0])?.scan(), &[], &[])?;
-    /// assert_eq!(filter.current(), None);
-    /// filter.next()?;
-    /// assert_eq!(filter.current(), Some(7));
-    /// # Ok::<(), loftsplice::Refusal>(())
-    /// ```
-    pub fn current(&self) -> Option<i64> {
-        let answer = raw::filter_current(self.filter);
-        (answer.found == 1).then_some(answer.value)
-    }
-
     /// Before again, in the same mode. The scan is left where it stands.
     ///
     /// ```
@@ -242,82 +260,6 @@ impl<'a> Filter<'a> {
         self.filter = raw::filter_reset(self.filter).filter;
     }
 
-    /// The scan, as it stands.
-    ///
-    /// ```
-    /// let mut filter = loftsplice::Filter::new(loftsplice::Column::new(&[7], &[3], &[2])?.scan(), &[], &[])?;
-    /// filter.next()?;
-    /// assert_eq!(filter.scan().pos(), Some(0));
-    /// # Ok::<(), loftsplice::Refusal>(())
-    /// ```
-    pub fn scan(&self) -> &Scan<'a> {
-        &self.scan
-    }
-
-    /// The filter's numbers.
-    ///
-    /// ```
-    /// let filter = loftsplice::Filter::new(loftsplice::Column::new(&[7], &[3], &[2])?.scan(), &[], &[])?;
-    /// assert_eq!(filter.raw().state, loftsplice::raw::BEFORE);
-    /// # Ok::<(), loftsplice::Refusal>(())
-    /// ```
-    pub fn raw(&self) -> raw::Filter {
-        self.filter
-    }
-
-    /// The lower bound that the constant ones fold to, or none.
-    ///
-    /// ```
-    /// use loftsplice::{Bound, Column, Filter};
-    ///
-    /// let filter = Filter::new(Column::new(&[], &[], &[])?.scan(), &[Bound::Inclusive(3), Bound::Exclusive(3)], &[])?;
-    /// assert_eq!(filter.lower(), Some(Bound::Exclusive(3)));
-    /// # Ok::<(), loftsplice::Refusal>(())
-    /// ```
-    pub fn lower(&self) -> Option<Bound> {
-        limit(self.filter.lower)
-    }
-
-    /// The upper bound that the constant ones fold to, or none.
-    ///
-    /// ```
-    /// let filter = loftsplice::Filter::new(loftsplice::Column::new(&[], &[], &[])?.scan(), &[], &[])?;
-    /// assert_eq!(filter.upper(), None);
-    /// # Ok::<(), loftsplice::Refusal>(())
-    /// ```
-    pub fn upper(&self) -> Option<Bound> {
-        limit(self.filter.upper)
-    }
-
-    /// The mode that the filter was made in.
-    ///
-    /// ```
-    /// let filter = loftsplice::Filter::new(loftsplice::Column::new(&[], &[], &[])?.scan(), &[], &[])?;
-    /// assert_eq!(filter.mode(), loftsplice::Mode::InclusiveWins);
-    /// # Ok::<(), loftsplice::Refusal>(())
-    /// ```
-    pub fn mode(&self) -> Mode {
-        match self.filter.mode {
-            raw::EXCLUSIVE_WINS => Mode::ExclusiveWins,
-            _ => Mode::InclusiveWins,
-        }
-    }
-
-    /// The state.
-    ///
-    /// ```
-    /// let filter = loftsplice::Filter::new(loftsplice::Column::new(&[], &[], &[])?.scan(), &[], &[])?;
-    /// assert_eq!(filter.state(), loftsplice::FilterState::Before);
-    /// # Ok::<(), loftsplice::Refusal>(())
-    /// ```
-    pub fn state(&self) -> FilterState {
-        match self.filter.state {
-            raw::BEFORE => FilterState::Before,
-            raw::WITHIN => FilterState::Within(limit(self.filter.kept)),
-            _ => FilterState::After,
-        }
-    }
-
     /// An iterator over the elements that are left: by `next` alone, up to none or a refusal.
     ///
     /// ```
@@ -328,42 +270,8 @@ impl<'a> Filter<'a> {
     /// assert_eq!(filter.values().collect::<Result<Vec<_>, _>>()?, [15, 20, 25, 30]);
     /// # Ok::<(), loftsplice::Refusal>(())
     /// ```
-    pub fn values(self) -> Values<'a> {
-        Values {
-            filter: self,
-            done: false,
-        }
+    #[must_use]
+    pub const fn values(self) -> Values<'a> {
+        Values::of(self)
     }
 }
-
-/// The elements that a filter gives by `next` alone; a refusal is the last item.
-///
-/// ```
-/// use loftsplice::{Column, Filter, Refusal};
-///
-/// let falling = Column::new(&[10, 6], &[2, 5], &[-5, 1])?;
-/// let mut values = Filter::new(falling.scan(), &[], &[])?.values();
-/// assert_eq!(values.next(), Some(Err(Refusal::Order)));
-/// assert_eq!(values.next(), None);
-/// # Ok::<(), Refusal>(())
-/// ```
-#[derive(Clone, Debug)]
-pub struct Values<'a> {
-    filter: Filter<'a>,
-    done: bool,
-}
-
-impl Iterator for Values<'_> {
-    type Item = Result<i64, Refusal>;
-
-    fn next(&mut self) -> Option<Result<i64, Refusal>> {
-        if self.done {
-            return None;
-        }
-        let answer = self.filter.next().transpose();
-        self.done = !matches!(answer, Some(Ok(_)));
-        answer
-    }
-}
-
-impl std::iter::FusedIterator for Values<'_> {}

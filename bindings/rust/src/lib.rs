@@ -17,23 +17,45 @@
 //! assert_eq!(values, [15, 20, 25, 30, 31, 40]);
 //! # Ok::<(), loftsplice::Refusal>(())
 //! ```
+//!
+//! The crate is `no_std`; it needs `alloc`. What it keeps is in the values that it gives, so any number of threads may use it.
+#![no_std]
 #![deny(missing_docs, unsafe_code)]
 
-mod bound;
-mod column;
-mod filter;
-mod listing;
-pub mod raw;
-mod record;
-mod refusal;
-mod scan;
-#[allow(unsafe_code)]
-mod sys;
+extern crate alloc;
 
-pub use bound::{Bound, Mode, Variables};
+// `forbid` can't be taken back in a module: `unsafe` stands in `sys` and nowhere else. A module that is new falls under `deny` above.
+#[forbid(unsafe_code)]
+mod bound;
+#[forbid(unsafe_code)]
+mod column;
+#[forbid(unsafe_code)]
+mod column_buf;
+#[forbid(unsafe_code)]
+mod filter;
+#[forbid(unsafe_code)]
+mod listing;
+#[forbid(unsafe_code)]
+pub mod raw;
+#[forbid(unsafe_code)]
+mod record;
+#[forbid(unsafe_code)]
+mod refusal;
+#[forbid(unsafe_code)]
+mod run;
+#[forbid(unsafe_code)]
+mod scan;
+#[allow(unsafe_code, reason = "the calls of the proved archive")]
+mod sys;
+#[forbid(unsafe_code)]
+mod window;
+
+pub use bound::{Bound, Mode, Unbounded, Variables};
 pub use column::{diff_step, Column, Place};
+pub use column_buf::ColumnBuf;
 pub use filter::{Filter, FilterState, Values};
 pub use listing::{list, list_in_mode};
 pub use record::{read_record, write_record, Record};
-pub use refusal::Refusal;
+pub use refusal::{NoRefusal, Refusal};
+pub use run::{Run, Runs};
 pub use scan::{Scan, ScanState};

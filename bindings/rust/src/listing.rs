@@ -1,11 +1,11 @@
-use std::ops::Range;
+use alloc::vec::Vec;
+use core::ops::Range;
 
 use crate::bound::lists;
 use crate::{raw, Bound, Column, Mode, Refusal};
 
 /// Writes the values of each window that meet the constant bounds into `out`, window by window, and each window's number of values into `counts`;
-/// answers their sum. The mode is [`Mode::InclusiveWins`]. Places that are not filled stay as they were. Refused [`Refusal::Bounds`],
-/// [`Refusal::Window`], [`Refusal::Order`], [`Refusal::Room`], and then nothing is written.
+/// answers their sum. The mode is [`Mode::InclusiveWins`]. Places that are not filled stay as they were.
 ///
 /// ```
 /// use loftsplice::{list, Bound, Column, Refusal};
@@ -17,6 +17,10 @@ use crate::{raw, Bound, Column, Mode, Refusal};
 /// assert_eq!(list(column, &[0..9], &[], &[], &mut out, &mut counts), Err(Refusal::Room));
 /// # Ok::<(), Refusal>(())
 /// ```
+///
+/// # Errors
+///
+/// [`Refusal::Bounds`], [`Refusal::Window`], [`Refusal::Order`], [`Refusal::Room`], and then nothing is written.
 pub fn list(
     column: Column<'_>,
     windows: &[Range<u64>],
@@ -41,6 +45,10 @@ pub fn list(
 /// assert_eq!((out, counts), ([10, 0], [1]));
 /// # Ok::<(), Refusal>(())
 /// ```
+///
+/// # Errors
+///
+/// As [`list`].
 pub fn list_in_mode(
     mode: Mode,
     column: Column<'_>,

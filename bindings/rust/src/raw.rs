@@ -18,6 +18,33 @@ pub use crate::sys::{
     scan_pos, scan_reset, scan_seek, write_record,
 };
 
+/// Runs that a column has at most; more are refused 1.
+pub const MAX_RUNS: usize = 4096;
+/// Elements that a column has at most; more are refused 2.
+pub const MAX_ELEMENTS: u64 = 4_294_967_295;
+/// Bytes of the longest record, that of [`MAX_RUNS`] runs.
+pub const MAX_RECORD: usize = HEAD_BYTES + RUN_BYTES * MAX_RUNS;
+/// Bounds that a list has at most; more are refused 8.
+pub const MAX_BOUNDS: usize = 16;
+/// Inputs that variable bounds are handed at most; more are refused 8.
+pub const MAX_INPUTS: usize = 8;
+/// Windows that a listing takes at most; more are refused 8.
+pub const MAX_WINDOWS: usize = 256;
+
+/// Bytes of a record before its first run: length and kind.
+pub(crate) const HEAD_BYTES: usize = 6;
+/// Bytes of a run in a record: start, step and number of elements.
+pub(crate) const RUN_BYTES: usize = 14;
+
+/// A number of places of a list, as the library gives it.
+#[allow(
+    clippy::cast_possible_truncation,
+    reason = "it is at most the length of a list that is there, or one of the limits above"
+)]
+pub(crate) const fn places(number: u64) -> usize {
+    number as usize
+}
+
 /// The refusal of a number that is no state, kind, mode or `found`, and of two lists that belong together and differ in length; tried before all others.
 pub const FORM: u32 = 100;
 
@@ -51,9 +78,10 @@ pub const EXCLUSIVE_WINS: u32 = 2;
 pub const NO_STATE: u32 = u32::MAX;
 
 /// A window and a state; the index is read only when [`AT`], and given as 0 otherwise. And what the scan carries: `found` 1 and the element that it is
-/// at, or 0, when fresh or ended; any other `found` is refused [`FORM`]. The value is read only where `found` is 1, and given as 0 where it is 0.
+/// at, or 0, when fresh or ended; any other `found` is refused [`FORM`]. The value is read only where `found` is 1, and given as 0 where it is 0. The
+/// default, all 0, is fresh over an empty window.
 #[repr(C)]
-#[derive(Clone, Copy, Debug, PartialEq, Eq)]
+#[derive(Clone, Copy, Debug, Default, PartialEq, Eq, Hash)]
 pub struct Scan {
     /// The window's first index.
     pub start: u64,
@@ -69,9 +97,9 @@ pub struct Scan {
     pub found: u32,
 }
 
-/// A bound, or none: kind [`FREE`] and value 0.
+/// A bound, or none: kind [`FREE`] and value 0, which is the default.
 #[repr(C)]
-#[derive(Clone, Copy, Debug, PartialEq, Eq)]
+#[derive(Clone, Copy, Debug, Default, PartialEq, Eq, Hash)]
 pub struct Limit {
     /// A value.
     pub value: i64,
@@ -81,7 +109,7 @@ pub struct Limit {
 
 /// A scan, the folded constant bounds, a state and the mode that it was made in; `kept` is read only when [`WITHIN`], and given as free otherwise.
 #[repr(C)]
-#[derive(Clone, Copy, Debug, PartialEq, Eq)]
+#[derive(Clone, Copy, Debug, PartialEq, Eq, Hash)]
 pub struct Filter {
     /// The scan.
     pub scan: Scan,
@@ -99,7 +127,7 @@ pub struct Filter {
 
 /// The number of elements.
 #[repr(C)]
-#[derive(Clone, Copy, Debug, PartialEq, Eq)]
+#[derive(Clone, Copy, Debug, PartialEq, Eq, Hash)]
 pub struct Length {
     /// The refusal's number, or 0.
     pub refusal: u32,
@@ -109,7 +137,7 @@ pub struct Length {
 
 /// 1 if there is no element, else 0.
 #[repr(C)]
-#[derive(Clone, Copy, Debug, PartialEq, Eq)]
+#[derive(Clone, Copy, Debug, PartialEq, Eq, Hash)]
 pub struct Emptiness {
     /// The refusal's number, or 0.
     pub refusal: u32,
@@ -119,7 +147,7 @@ pub struct Emptiness {
 
 /// The run that an index lies in, from 0, its offset there, and how many elements there are from that index to the end of the run.
 #[repr(C)]
-#[derive(Clone, Copy, Debug, PartialEq, Eq)]
+#[derive(Clone, Copy, Debug, PartialEq, Eq, Hash)]
 pub struct Place {
     /// The refusal's number, or 0.
     pub refusal: u32,
@@ -133,7 +161,7 @@ pub struct Place {
 
 /// `found` 1 and the step, or 0: there is none.
 #[repr(C)]
-#[derive(Clone, Copy, Debug, PartialEq, Eq)]
+#[derive(Clone, Copy, Debug, PartialEq, Eq, Hash)]
 pub struct Difference {
     /// 1 or 0.
     pub found: u32,
@@ -143,7 +171,7 @@ pub struct Difference {
 
 /// `found` 1 and the element, or 0: none.
 #[repr(C)]
-#[derive(Clone, Copy, Debug, PartialEq, Eq)]
+#[derive(Clone, Copy, Debug, PartialEq, Eq, Hash)]
 pub struct Answer {
     /// The refusal's number, or 0.
     pub refusal: u32,
@@ -155,7 +183,7 @@ pub struct Answer {
 
 /// `found` 1 and the index, or 0: none.
 #[repr(C)]
-#[derive(Clone, Copy, Debug, PartialEq, Eq)]
+#[derive(Clone, Copy, Debug, PartialEq, Eq, Hash)]
 pub struct Position {
     /// The refusal's number, or 0.
     pub refusal: u32,
@@ -167,7 +195,7 @@ pub struct Position {
 
 /// A new scan; if refused, one in state [`NO_STATE`].
 #[repr(C)]
-#[derive(Clone, Copy, Debug, PartialEq, Eq)]
+#[derive(Clone, Copy, Debug, PartialEq, Eq, Hash)]
 pub struct NewScan {
     /// The refusal's number, or 0.
     pub refusal: u32,
@@ -177,7 +205,7 @@ pub struct NewScan {
 
 /// The scan as the call leaves it, and the answer. A refusal: the scan as it went in, every number of it.
 #[repr(C)]
-#[derive(Clone, Copy, Debug, PartialEq, Eq)]
+#[derive(Clone, Copy, Debug, PartialEq, Eq, Hash)]
 pub struct Moved {
     /// The scan.
     pub scan: Scan,
@@ -187,7 +215,7 @@ pub struct Moved {
 
 /// A new filter; if refused, one in state [`NO_STATE`].
 #[repr(C)]
-#[derive(Clone, Copy, Debug, PartialEq, Eq)]
+#[derive(Clone, Copy, Debug, PartialEq, Eq, Hash)]
 pub struct NewFilter {
     /// The refusal's number, or 0.
     pub refusal: u32,
@@ -197,7 +225,7 @@ pub struct NewFilter {
 
 /// The filter as the call leaves it, and the answer. A refusal: the filter as it went in, every number of it.
 #[repr(C)]
-#[derive(Clone, Copy, Debug, PartialEq, Eq)]
+#[derive(Clone, Copy, Debug, PartialEq, Eq, Hash)]
 pub struct Sifted {
     /// The filter.
     pub filter: Filter,
@@ -207,7 +235,7 @@ pub struct Sifted {
 
 /// The filter after its reset; `refusal` is 0 or [`FORM`].
 #[repr(C)]
-#[derive(Clone, Copy, Debug, PartialEq, Eq)]
+#[derive(Clone, Copy, Debug, PartialEq, Eq, Hash)]
 pub struct Reset {
     /// The refusal's number, or 0.
     pub refusal: u32,
@@ -217,7 +245,7 @@ pub struct Reset {
 
 /// What a filter's `next` and `seek` are handed: variable bounds, an input's number (from 0) and a kind each, and inputs, a value each and 1 if it has
 /// one, 0 if not.
-#[derive(Clone, Copy, Debug, Default)]
+#[derive(Clone, Copy, Debug, Default, PartialEq, Eq, Hash)]
 pub struct Variables<'a> {
     /// The inputs that the lower bounds name.
     pub lower_inputs: &'a [u64],
@@ -235,7 +263,7 @@ pub struct Variables<'a> {
 
 /// The number of values written.
 #[repr(C)]
-#[derive(Clone, Copy, Debug, PartialEq, Eq)]
+#[derive(Clone, Copy, Debug, PartialEq, Eq, Hash)]
 pub struct Listed {
     /// The refusal's number, or 0.
     pub refusal: u32,
@@ -245,7 +273,7 @@ pub struct Listed {
 
 /// The run count, and the bytes that the record takes.
 #[repr(C)]
-#[derive(Clone, Copy, Debug, PartialEq, Eq)]
+#[derive(Clone, Copy, Debug, PartialEq, Eq, Hash)]
 pub struct ReadRecord {
     /// The refusal's number, or 0.
     pub refusal: u32,
@@ -257,7 +285,7 @@ pub struct ReadRecord {
 
 /// The number of bytes written.
 #[repr(C)]
-#[derive(Clone, Copy, Debug, PartialEq, Eq)]
+#[derive(Clone, Copy, Debug, PartialEq, Eq, Hash)]
 pub struct Written {
     /// The refusal's number, or 0.
     pub refusal: u32,

@@ -1,6 +1,9 @@
-use crate::{raw, Column, Refusal};
+use alloc::vec;
+use alloc::vec::Vec;
 
-/// A record's runs, owned.
+use crate::{raw, Column, ColumnBuf, Refusal};
+
+/// A record that was read: its column, owned, and the bytes that it takes.
 ///
 /// ```
 /// use loftsplice::{read_record, write_record, Column};
@@ -12,11 +15,9 @@ use crate::{raw, Column, Refusal};
 /// assert_eq!(record.used(), bytes.len());
 /// # Ok::<(), loftsplice::Refusal>(())
 /// ```
-#[derive(Clone, Debug, PartialEq, Eq)]
+#[derive(Clone, Debug, PartialEq, Eq, Hash)]
 pub struct Record {
-    starts: Vec<i64>,
-    ends: Vec<u64>,
-    steps: Vec<i16>,
+    column: ColumnBuf,
     used: usize,
 }
 
@@ -28,8 +29,23 @@ impl Record {
     /// assert!(record.column().is_empty());
     /// # Ok::<(), loftsplice::Refusal>(())
     /// ```
+    #[must_use]
     pub fn column(&self) -> Column<'_> {
-        Column::read(&self.starts, &self.ends, &self.steps)
+        self.column.as_column()
+    }
+
+    /// The same, handed over.
+    ///
+    /// ```
+    /// use loftsplice::{read_record, write_record, Column, ColumnBuf};
+    ///
+    /// let column = Column::new(&[10], &[2], &[-5])?;
+    /// assert_eq!(read_record(&write_record(column))?.into_column(), ColumnBuf::from(column));
+    /// # Ok::<(), loftsplice::Refusal>(())
+    /// ```
+    #[must_use]
+    pub fn into_column(self) -> ColumnBuf {
+        self.column
     }
 
     /// The bytes that the record takes; what follows them was not read.
@@ -38,17 +54,13 @@ impl Record {
     /// assert_eq!(loftsplice::read_record(&[2, 0, 0, 0, 1, 0, 99])?.used(), 6);
     /// # Ok::<(), loftsplice::Refusal>(())
     /// ```
+    #[must_use]
     pub fn used(&self) -> usize {
         self.used
     }
 }
 
-/// Runs that a record of so many bytes can have: 14 bytes each, and at most 4,096.
-fn most_runs(bytes: &[u8]) -> usize {
-    (bytes.len() / 14).min(4096)
-}
-
-/// The record at the front of the bytes; or refused [`Refusal::Cut`], [`Refusal::Size`], [`Refusal::Kind`], [`Refusal::Ends`], [`Refusal::Reach`].
+/// The record at the front of the bytes.
 ///
 /// ```
 /// use loftsplice::{read_record, Refusal};
@@ -58,23 +70,40 @@ fn most_runs(bytes: &[u8]) -> usize {
 /// assert_eq!(read_record(&bytes[..19]).unwrap_err(), Refusal::Cut);
 /// # Ok::<(), Refusal>(())
 /// ```
+///
+/// # Errors
+///
+/// [`Refusal::Cut`], [`Refusal::Size`], [`Refusal::Kind`], [`Refusal::Ends`], [`Refusal::Reach`].
 pub fn read_record(bytes: &[u8]) -> Result<Record, Refusal> {
-    let most = most_runs(bytes);
-    let (mut starts, mut ends, mut steps) = (vec![0; most], vec![0; most], vec![0; most]);
-    let read = raw::read_record(bytes, &mut starts, &mut ends, &mut steps);
-    let runs = read.runs as usize;
-    starts.truncate(runs);
-    ends.truncate(runs);
-    steps.truncate(runs);
-    Refusal::or(
-        read.refusal,
-        Record {
-            starts,
-            ends,
-            steps,
-            used: read.used as usize,
-        },
-    )
+    let mut column = ColumnBuf::default();
+    let used = column.read(bytes)?;
+    Ok(Record { column, used })
+}
+
+/// The record at the front of the bytes, as [`read_record`] gives it. What follows is not read: where nothing may follow, [`Record::used`] has to be the
+/// number of bytes.
+///
+/// ```
+/// use loftsplice::{Record, Refusal};
+///
+/// // one record after the other
+/// let mut bytes = &[2, 0, 0, 0, 1, 0, 16, 0, 0, 0, 1, 0, 10, 0, 0, 0, 0, 0, 0, 0, 0xFB, 0xFF, 2, 0, 0, 0][..];
+/// let mut lengths = Vec::new();
+/// while !bytes.is_empty() {
+///     let record = Record::try_from(bytes)?;
+///     lengths.push(record.column().len());
+///     bytes = &bytes[record.used()..];
+/// }
+/// assert_eq!(lengths, [0, 2]);
+/// assert_eq!(Record::try_from(&[2, 0, 0, 0, 1][..]), Err(Refusal::Cut));
+/// # Ok::<(), Refusal>(())
+/// ```
+impl TryFrom<&[u8]> for Record {
+    type Error = Refusal;
+
+    fn try_from(bytes: &[u8]) -> Result<Record, Refusal> {
+        read_record(bytes)
+    }
 }
 
 /// The bytes of a column's record.
@@ -86,9 +115,10 @@ pub fn read_record(bytes: &[u8]) -> Result<Record, Refusal> {
 /// assert_eq!(bytes, [16, 0, 0, 0, 1, 0, 10, 0, 0, 0, 0, 0, 0, 0, 0xFB, 0xFF, 2, 0, 0, 0]);
 /// # Ok::<(), loftsplice::Refusal>(())
 /// ```
+#[must_use]
 pub fn write_record(column: Column<'_>) -> Vec<u8> {
-    let mut out = vec![0; 6 + 14 * column.starts().len()];
+    let mut out = vec![0; raw::HEAD_BYTES + raw::RUN_BYTES * column.starts().len()];
     let written = raw::write_record(column.starts(), column.ends(), column.steps(), &mut out);
-    out.truncate(written.bytes as usize);
+    out.truncate(raw::places(written.bytes));
     out
 }

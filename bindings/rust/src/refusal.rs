@@ -1,4 +1,4 @@
-use std::fmt;
+use core::{error, fmt};
 
 /// Why a call is refused.
 ///
@@ -46,7 +46,8 @@ pub enum Refusal {
 }
 
 /// Each refusal with its number, name and condition.
-const TABLE: [(Refusal, u32, &str, &str); 14] = [
+type Row = (Refusal, u32, &'static str, &'static str);
+const TABLE: [Row; 14] = [
     (Refusal::Shape, 1, "SHAPE", "array lengths differ, or over 4,096 runs"),
     (Refusal::Ends, 2, "ENDS", "an end is not above the one before (the first: above 0), or is over 4,294,967,295"),
     (Refusal::Reach, 3, "REACH", "a run's last element is outside i64"),
@@ -69,14 +70,26 @@ impl Refusal {
     /// ```
     /// assert_eq!(loftsplice::Refusal::Order.number(), 7);
     /// ```
+    #[must_use]
     pub fn number(self) -> u32 {
         match self {
             Refusal::Other(number) => number,
-            known => TABLE
-                .iter()
-                .find(|row| row.0 == known)
-                .map_or(0, |row| row.1),
+            known => known.row().map_or(0, |row| row.1),
         }
+    }
+
+    /// The refusal's name in the documents; `unknown` for one that this crate does not know.
+    ///
+    /// ```
+    /// assert_eq!(loftsplice::Refusal::Order.name(), "ORDER");
+    /// ```
+    #[must_use]
+    pub fn name(self) -> &'static str {
+        self.row().map_or("unknown", |row| row.2)
+    }
+
+    fn row(self) -> Option<&'static Row> {
+        TABLE.iter().find(|row| row.0 == self)
     }
 
     /// The refusal of a number; none for 0, which is no refusal.
@@ -87,6 +100,7 @@ impl Refusal {
     /// assert_eq!(Refusal::of(7), Some(Refusal::Order));
     /// assert_eq!(Refusal::of(0), None);
     /// ```
+    #[must_use]
     pub fn of(number: u32) -> Option<Refusal> {
         match TABLE.iter().find(|row| row.1 == number) {
             Some(row) => Some(row.0),
@@ -106,11 +120,56 @@ impl Refusal {
 
 impl fmt::Display for Refusal {
     fn fmt(&self, to: &mut fmt::Formatter<'_>) -> fmt::Result {
-        match TABLE.iter().find(|row| row.0 == *self) {
+        match self.row() {
             Some((_, number, name, condition)) => write!(to, "{number} {name}: {condition}"),
             None => write!(to, "{}: unknown", self.number()),
         }
     }
 }
 
-impl std::error::Error for Refusal {}
+impl error::Error for Refusal {}
+
+/// The refusal's number.
+///
+/// ```
+/// assert_eq!(u32::from(loftsplice::Refusal::Order), 7);
+/// ```
+impl From<Refusal> for u32 {
+    fn from(refusal: Refusal) -> u32 {
+        refusal.number()
+    }
+}
+
+/// The refusal of a number, as [`Refusal::of`] gives it.
+///
+/// ```
+/// use loftsplice::{NoRefusal, Refusal};
+///
+/// assert_eq!(Refusal::try_from(7), Ok(Refusal::Order));
+/// assert_eq!(Refusal::try_from(77), Ok(Refusal::Other(77)));
+/// assert_eq!(Refusal::try_from(0), Err(NoRefusal));
+/// ```
+impl TryFrom<u32> for Refusal {
+    type Error = NoRefusal;
+
+    fn try_from(number: u32) -> Result<Refusal, NoRefusal> {
+        Refusal::of(number).ok_or(NoRefusal)
+    }
+}
+
+/// The number 0, which is no refusal: the call was accepted.
+///
+/// ```
+/// let accepted = loftsplice::Refusal::try_from(0).unwrap_err();
+/// assert_eq!(accepted.to_string(), "0 is no refusal");
+/// ```
+#[derive(Clone, Copy, Debug, PartialEq, Eq, Hash)]
+pub struct NoRefusal;
+
+impl fmt::Display for NoRefusal {
+    fn fmt(&self, to: &mut fmt::Formatter<'_>) -> fmt::Result {
+        to.write_str("0 is no refusal")
+    }
+}
+
+impl error::Error for NoRefusal {}

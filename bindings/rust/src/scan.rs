@@ -1,6 +1,7 @@
-use std::ops::Range;
+use core::iter::FusedIterator;
+use core::ops::{Range, RangeBounds};
 
-use crate::{raw, Column, Refusal};
+use crate::{raw, window, Column, Refusal};
 
 /// The state of a scan.
 ///
@@ -13,9 +14,10 @@ use crate::{raw, Column, Refusal};
 /// assert_eq!(scan.state(), ScanState::At(0));
 /// # Ok::<(), loftsplice::Refusal>(())
 /// ```
-#[derive(Clone, Copy, Debug, PartialEq, Eq)]
+#[derive(Clone, Copy, Debug, Default, PartialEq, Eq, Hash)]
 pub enum ScanState {
     /// Before the window's first element.
+    #[default]
     Fresh,
     /// At an index.
     At(u64),
@@ -23,7 +25,7 @@ pub enum ScanState {
     Ended,
 }
 
-/// A scan over a window of a column. As an iterator it gives the elements from its place on.
+/// A scan over a window of a column. As an iterator it gives the elements from its place on, and knows how many are left.
 ///
 /// ```
 /// use loftsplice::Column;
@@ -37,7 +39,7 @@ pub enum ScanState {
 /// assert_eq!(scan.collect::<Vec<_>>(), [15, 20]);
 /// # Ok::<(), loftsplice::Refusal>(())
 /// ```
-#[derive(Clone, Debug, PartialEq, Eq)]
+#[derive(Clone, Debug, PartialEq, Eq, Hash)]
 pub struct Scan<'a> {
     column: Column<'a>,
     scan: raw::Scan,
@@ -64,7 +66,8 @@ impl<'a> Scan<'a> {
     /// assert_eq!(column.scan().column(), column);
     /// # Ok::<(), loftsplice::Refusal>(())
     /// ```
-    pub fn column(&self) -> Column<'a> {
+    #[must_use]
+    pub const fn column(&self) -> Column<'a> {
         self.column
     }
 
@@ -75,7 +78,8 @@ impl<'a> Scan<'a> {
     /// assert_eq!(scan.raw().end, 3);
     /// # Ok::<(), loftsplice::Refusal>(())
     /// ```
-    pub fn raw(&self) -> raw::Scan {
+    #[must_use]
+    pub const fn raw(&self) -> raw::Scan {
         self.scan
     }
 
@@ -85,11 +89,12 @@ impl<'a> Scan<'a> {
     /// assert_eq!(loftsplice::Column::new(&[7], &[3], &[2])?.scan().window(), 0..3);
     /// # Ok::<(), loftsplice::Refusal>(())
     /// ```
-    pub fn window(&self) -> Range<u64> {
+    #[must_use]
+    pub const fn window(&self) -> Range<u64> {
         self.scan.start..self.scan.end
     }
 
-    /// The state.
+    /// The state. It makes no call.
     ///
     /// ```
     /// let mut scan = loftsplice::Column::new(&[7], &[3], &[2])?.scan();
@@ -97,7 +102,8 @@ impl<'a> Scan<'a> {
     /// assert_eq!(scan.state(), loftsplice::ScanState::Ended);
     /// # Ok::<(), loftsplice::Refusal>(())
     /// ```
-    pub fn state(&self) -> ScanState {
+    #[must_use]
+    pub const fn state(&self) -> ScanState {
         match self.scan.state {
             raw::FRESH => ScanState::Fresh,
             raw::AT => ScanState::At(self.scan.index),
@@ -105,7 +111,7 @@ impl<'a> Scan<'a> {
         }
     }
 
-    /// To the first element from here on that is not below the target, or none; or refused [`Refusal::Order`], if the window doesn't rise.
+    /// To the first element from here on that is not below the target, or none.
     ///
     /// ```
     /// use loftsplice::{Column, Refusal};
@@ -117,6 +123,10 @@ impl<'a> Scan<'a> {
     /// assert_eq!(scan.seek(9)?, None);
     /// # Ok::<(), Refusal>(())
     /// ```
+    ///
+    /// # Errors
+    ///
+    /// [`Refusal::Order`] if the window doesn't rise.
     pub fn seek(&mut self, target: i64) -> Result<Option<i64>, Refusal> {
         let column = self.column;
         self.moved(raw::scan_seek(
@@ -128,8 +138,8 @@ impl<'a> Scan<'a> {
         ))
     }
 
-    /// To another window of the column, before its first element; or refused [`Refusal::Window`]. A window counts from the column's beginning and
-    /// may be wider than the one before; a start at or above its end makes it empty.
+    /// To another window of the column, any range of indices, before its first element. A window counts from the column's beginning and may be wider
+    /// than the one before; a start at or above its end makes it empty, and an open end is the column's.
     ///
     /// ```
     /// use loftsplice::{Column, Refusal};
@@ -138,17 +148,26 @@ impl<'a> Scan<'a> {
     /// scan.narrow(2..3)?;
     /// assert_eq!(scan.next(), Some(11));
     /// assert_eq!(scan.narrow(0..4).unwrap_err(), Refusal::Window);
+    /// scan.narrow(..=1)?;
+    /// assert_eq!(scan.by_ref().collect::<Vec<_>>(), [7, 9]);
+    /// scan.narrow(..)?;
+    /// assert_eq!(scan.window(), 0..3);
     /// # Ok::<(), Refusal>(())
     /// ```
-    pub fn narrow(&mut self, window: Range<u64>) -> Result<(), Refusal> {
+    ///
+    /// # Errors
+    ///
+    /// [`Refusal::Window`] if its end is above the column's length; the scan is then as it was.
+    pub fn narrow(&mut self, window: impl RangeBounds<u64>) -> Result<(), Refusal> {
         let column = self.column;
+        let (start, end) = window::of(&window, column.len());
         self.moved(raw::scan_narrow(
             self.scan,
             column.starts(),
             column.ends(),
             column.steps(),
-            window.start,
-            window.end,
+            start,
+            end,
         ))
         .map(|_| ())
     }
@@ -176,12 +195,13 @@ impl<'a> Scan<'a> {
     /// assert_eq!(scan.current(), Some(7));
     /// # Ok::<(), loftsplice::Refusal>(())
     /// ```
+    #[must_use]
     pub fn current(&self) -> Option<i64> {
         let answer = raw::scan_current(self.scan);
         (answer.found == 1).then_some(answer.value)
     }
 
-    /// The index that the scan is at, or none.
+    /// The index that the scan is at, or none. It makes no call.
     ///
     /// ```
     /// let mut scan = loftsplice::Column::new(&[7], &[3], &[2])?.scan();
@@ -189,10 +209,22 @@ impl<'a> Scan<'a> {
     /// assert_eq!(scan.pos(), Some(1));
     /// # Ok::<(), loftsplice::Refusal>(())
     /// ```
-    pub fn pos(&self) -> Option<u64> {
-        let column = self.column;
-        let position = raw::scan_pos(self.scan, column.starts(), column.ends(), column.steps());
-        (position.found == 1).then_some(position.index)
+    #[must_use]
+    pub const fn pos(&self) -> Option<u64> {
+        match self.state() {
+            ScanState::At(index) => Some(index),
+            ScanState::Fresh | ScanState::Ended => None,
+        }
+    }
+
+    /// The elements that are left in the window: those behind the index, or all of them when fresh.
+    const fn left(&self) -> u64 {
+        let from = match self.state() {
+            ScanState::Fresh => self.scan.start,
+            ScanState::At(index) => index + 1,
+            ScanState::Ended => self.scan.end,
+        };
+        self.scan.end.saturating_sub(from)
     }
 }
 
@@ -204,4 +236,13 @@ impl Iterator for Scan<'_> {
         let moved = raw::scan_next(self.scan, column.starts(), column.ends(), column.steps());
         self.moved(moved).ok().flatten()
     }
+
+    fn size_hint(&self) -> (usize, Option<usize>) {
+        let left = raw::places(self.left());
+        (left, Some(left))
+    }
 }
+
+impl ExactSizeIterator for Scan<'_> {}
+
+impl FusedIterator for Scan<'_> {}
