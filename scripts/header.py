@@ -1,7 +1,8 @@
 #!/usr/bin/env python3
 """Holds include/loftsplice.h to what is said of it elsewhere; the archive is not needed. Each call's cost is that of docs/REFERENCE.md, each refusal has
-the number and the name that it has there, a limit stands as a number in its macro alone, and a struct that is laid out otherwise (two fields swapped, or
-one more) does not compile, as C99, C11 and C++11. Writes a line for each thing that is not so, and fails if there is one."""
+the number and the name that it has there, a limit stands as a number in its macro alone, there is a word on alignment, threads and cost, and a struct
+that is laid out otherwise (two fields swapped, or one more) does not compile, as C99, C11 and C++11. Writes a line for each thing that is not so, and
+fails if there is one."""
 import re
 import subprocess
 import sys
@@ -41,6 +42,12 @@ def limits():
             bad.append(f'the {where} says {number!r}, which its macro should say')
 
 
+def words():
+    for word in ('Alignment', 'Threads', 'Cost'):
+        if not re.search(rf'^ \* {word}: ', HEADER, re.M):
+            bad.append(f'the header has no word on {word.lower()}')
+
+
 def compiles(text):
     """How many of the compilers take the text."""
     flags = ('-fsyntax-only', '-Wall', '-Wextra', '-Werror', '-pedantic', '-')
@@ -65,6 +72,7 @@ def layout():
 costs()
 names()
 limits()
+words()
 wrong_layouts = layout()
 for line in bad:
     print(f'header: {line}', file=sys.stderr)

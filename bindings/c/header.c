@@ -1,4 +1,4 @@
-/* What the header gives by itself: names, limits and layout, beside README's example. Written in what C99, C11 and C++11 share: scripts/c-test compiles
+/* What the header says by itself: names, limits, alignment, beside README's example. Written in what C99, C11 and C++11 share: scripts/c-test compiles
  * and runs it as each. The last line says how many comparisons were made; the exit status is 1 if one failed. */
 #include "loftsplice.h"
 #include "loftsplice.h" /* a second time does no harm */
@@ -87,6 +87,27 @@ static void refusal_names(void) {
     HOLDS(strcmp(loftsplice_refusal_name(UINT32_MAX), "unknown") == 0);
 }
 
+/* One of two neighbours in each list is aligned as its type is and no more, and one of two bytes is at an odd address. */
+static void alignment(void) {
+    static int64_t start_room[2];
+    static uint64_t end_room[2];
+    static int16_t step_room[2];
+    static const uint8_t record[] = {0x10, 0, 0, 0, 1, 0, 0x0A, 0, 0, 0, 0, 0, 0, 0, 0xFB, 0xFF, 2, 0, 0, 0};
+    static uint8_t bytes[sizeof record + 2];
+    for (size_t shift = 0; shift < 2; shift++) {
+        int64_t *at_starts = start_room + shift;
+        uint64_t *at_ends = end_room + shift;
+        int16_t *at_steps = step_room + shift;
+        memcpy(bytes + shift, record, sizeof record);
+        loftsplice_read read = loftsplice_read_record(bytes + shift, sizeof record, at_starts, 1, at_ends, 1, at_steps, 1);
+        HOLDS(read.refusal == 0 && *at_starts == 10 && *at_ends == 2 && *at_steps == -5);
+        HOLDS(loftsplice_get(at_starts, 1, at_ends, 1, at_steps, 1, 1).value == 5);
+        memset(bytes, 0, sizeof bytes);
+        loftsplice_written written = loftsplice_write_record(at_starts, 1, at_ends, 1, at_steps, 1, bytes + shift, sizeof record);
+        HOLDS(written.refusal == 0 && memcmp(bytes + shift, record, sizeof record) == 0);
+    }
+}
+
 static void readme(void) {
     int64_t few_starts[] = {10, 30};
     uint64_t few_ends[] = {4, 5};
@@ -102,6 +123,7 @@ int main(void) {
     column_limits();
     other_limits();
     refusal_names();
+    alignment();
     readme();
     printf("header: %lu comparisons, %lu failed\n", made, failed);
     return failed != 0;
