@@ -117,9 +117,14 @@ impl ColumnBuf {
     }
 }
 
-/// Runs that a record of so many bytes can have.
+/// Runs that the record at the front of the bytes can have: by its length, which its first four bytes say, the bytes that are there, and the limit. So
+/// that reading costs what the record does, however many bytes follow it; whether the length is good is the library's to say.
 fn most_runs(bytes: &[u8]) -> usize {
-    (bytes.len() / raw::RUN_BYTES).min(raw::MAX_RUNS)
+    let length = bytes
+        .first_chunk()
+        .map_or(0, |&four| u32::from_le_bytes(four));
+    let most = bytes.len().min(raw::places(length.into()));
+    (most / raw::RUN_BYTES).min(raw::MAX_RUNS)
 }
 
 /// A copy of a column.

@@ -33,7 +33,7 @@ pub struct Run {
 /// assert_eq!(runs.next(), None);
 /// # Ok::<(), loftsplice::Refusal>(())
 /// ```
-#[derive(Clone, Debug)]
+#[derive(Clone, Debug, PartialEq, Eq, Hash)]
 pub struct Runs<'a> {
     column: Column<'a>,
     left: Range<usize>,

@@ -188,7 +188,7 @@ fn traits() {
     fn fused<T: FusedIterator + Clone + Debug>() {}
     fn exact<T: ExactSizeIterator>() {}
     fn error<T: Error + Copy + Send + Sync + 'static>() {}
-    value::<(Column<'_>, ColumnBuf, Place, Run, Record)>();
+    value::<(Column<'_>, ColumnBuf, Place, Run, Runs<'_>, Record)>();
     value::<(Scan<'_>, ScanState, Filter<'_>, FilterState, Values<'_>)>();
     value::<(Bound, Mode, Variables<'_>, Refusal, NoRefusal, Unbounded)>();
     value::<(raw::Scan, raw::Limit, raw::Filter, raw::Variables<'_>)>();

@@ -59,6 +59,19 @@ fn an_owned_column_is_refilled_and_a_refusal_leaves_it() {
     );
 }
 
+/// Room is made for the record, and not for what follows it.
+#[test]
+fn reading_takes_the_room_of_the_record() {
+    let mut bytes = write_record(columns()[1]);
+    let used = bytes.len();
+    bytes.resize(raw::MAX_RECORD, 0xFF);
+    let mut held = ColumnBuf::default();
+    assert_eq!(held.read(&bytes), Ok(used));
+    assert_eq!(held.as_column(), columns()[1]);
+    let (starts, ends, steps) = held.into_lists();
+    assert!(starts.capacity().max(ends.capacity()).max(steps.capacity()) < 16);
+}
+
 #[test]
 fn the_limits_are_the_limits() {
     let runs = |number: usize| {
