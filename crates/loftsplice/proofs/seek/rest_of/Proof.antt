@@ -1,11 +1,11 @@
--- `scan::rest_of` meets its contract. Assumes nothing.
+-- `seek::rest_of` meets its contract. Assumes nothing.
 use native.Mathlib.Omega.{arith}
 use mathlib.Core.Path.{refl, sym, ap, _∙_}
 use Rattle.loftsplice.specs.Inner.{standing}
 use Rattle.loftsplice.proofs.ScanCases.{stood-at}
 use borrow.Author.Needs.{needs}
-use Rattle.loftsplice.proofs.scan.rest_of.Statement.{statement}
-use Rattle.loftsplice.proofs.scan.rest_of.Tie as tie
+use Rattle.loftsplice.proofs.seek.rest_of.Statement.{statement}
+use Rattle.loftsplice.proofs.seek.rest_of.Tie as tie
 
 enum-told : tie.Need-enum-told
 enum-told c = search needs
