@@ -8,7 +8,7 @@ ghost use Rattle.meaning.specs.Column.{sizeOf, sequenceOf, sound};
 ghost use Rattle.meaning.specs.Contracts.{columnNow, sequence};
 ghost use Rattle.loftsplice.specs.declared.scan.State.the-variants.{At};
 ghost use Rattle.loftsplice.specs.Scan.{outcomeOf, seekFrom, badScan};
-ghost use Rattle.loftsplice.specs.Inner.{Lies, standing, Stood, Ready, ordered};
+ghost use Rattle.loftsplice.specs.Inner.{Lies, standing, Stood, Ready, onOrder};
 use crate::rising::rising;
 use crate::rle::Spot;
 use crate::scan::Moved;
@@ -77,7 +77,7 @@ pub(crate) fn seek_ordered(
     requires { ⌜ sound (columnNow starts ends steps) ≡ true ⌝ }
     requires { ⌜ badScan (sequenceOf (columnNow starts ends steps)) scan ≡ false ⌝ }
     requires { ⌜ Stood (now ends) (scan .state) (at .index) (at .place) ⌝ }
-    ensures { λ r. ⌜ outcomeOf r ≡ ordered (sequence starts ends steps) scan (seekFrom (sequence starts ends steps) target scan (scan .state)) ⌝ }
+    ensures { λ r. ⌜ outcomeOf r ≡ onOrder (sequence starts ends steps) scan (seekFrom (sequence starts ends steps) target scan (scan .state)) ⌝ }
 {
     let window = window_of(ends, scan.start, scan.end);
     if !rising(starts, ends, steps, window) {
@@ -91,7 +91,7 @@ pub(crate) fn seek_ordered(
 pub(crate) fn stay_ordered(scan: Scan, starts: &[i64], ends: &[u64], steps: &[i16]) -> Moved
     requires { ⌜ sound (columnNow starts ends steps) ≡ true ⌝ }
     requires { ⌜ scan .end ≤ sizeOf (columnNow starts ends steps) ⌝ }
-    ensures { λ r. ⌜ outcomeOf r ≡ ordered (sequence starts ends steps) scan (record { scan = scan; said = Gives none }) ⌝ }
+    ensures { λ r. ⌜ outcomeOf r ≡ onOrder (sequence starts ends steps) scan (record { scan = scan; said = Gives none }) ⌝ }
 {
     let whole = window_of(ends, scan.start, scan.end);
     if !rising(starts, ends, steps, whole) {
