@@ -30,3 +30,7 @@ pub mod Places
 pub mod FilterStates
 pub mod BoundComments
 pub mod StepComments
+pub mod Cuts
+pub mod CutRuns
+pub mod Chained
+pub mod ChainedFilter

@@ -14,6 +14,7 @@ use Rattle.filter_interval.specs.Filter.{settle, stepFrom, fitOf, callOf, filte
 use Rattle.loftsplice.specs.Listing.{windows, those, valuesIn, valuesOf, countsOf, listOf}
 use Rattle.theorems.specs.Table.{Row, table, endsFrom, sifts, times}
 use Rattle.theorems.specs.Carried.{carriedTable}
+use Rattle.theorems.specs.Cuts.{cutTable}
 
 pub examples : map (λ (r : Row). r .got) table ≡ map (λ (r : Row). r .want) table
 unfolding allFor firstFor every fitsIn tried rises endBefore runOf elementAt shapeOk endOk endsOk runOk reachOk diffStepOf checkOf placeOf getOf
@@ -27,3 +28,10 @@ unfolding allFor firstFor every fitsIn tried rises endBefore runOf elementAt sha
     goTo nextFrom seekFrom badScan nextOf seekOf narrowOf resetOf currentOf posOf readable asRead fold meetsUpper onPast leadFrom settle stepFrom callOf filterCurrentOf
     endsFrom saysAll leftBy sifts
 carried-examples = refl
+
+-- document 02's request 13: where a cut and a chain of seeks hold, and where they end
+pub cut-examples : map (λ (r : Row). r .got) cutTable ≡ map (λ (r : Row). r .want) cutTable
+unfolding allFor firstFor every fitsIn tried rises endBefore runOf elementAt shapeOk endOk endsOk runOk reachOk
+    goTo nextFrom seekFrom badScan newOf seekOf posOf less tighter fold meetsUpper readable asRead onPast leadFrom settle stepFrom fitOf callOf
+    elementsFor meetsLower windows those valuesIn valuesOf countsOf listOf endsFrom saysAll leftBy sifts
+cut-examples = refl

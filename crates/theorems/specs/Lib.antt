@@ -11,3 +11,4 @@ pub mod Comments
 pub mod Empty
 pub mod Places
 pub mod Carried
+pub mod Cuts
