@@ -1,2 +1,3 @@
 pub mod Walking
 pub mod Lending
+pub mod Chained

@@ -39,6 +39,15 @@ use Rattle.theorems.proofs.Demand3.{answers-at-any-bounds}
 use Rattle.theorems.proofs.Seeks.{alone, seeks-alone}
 use Rattle.theorems.proofs.Chained.{seek-again, sought-good}
 
+-- ---- a first call that is refused, in any state, and a filter that is After: neither moves anything
+
+pub refused-chained : (p : Source) (f : Filter) (k l : Call) → accepted (callOf p k f .said) ≡ false → askThen p k l f ≡ callOf p l f
+refused-chained p f k l h = ap (callOf p l) (call-keeps p f k h)
+
+pub after-chained : (p : Source) (f : Filter) (k l : Call) → f .state ≡ After → askThen p k l f ≡ callOf p l f
+unfolding stepFrom
+after-chained p f k l e = ap (callOf p l) (either (accepted (callOf p k f .said)) (λ t. ap (λ (o : Sifting). o .filter) (call-does p f k t ∙ ap (stepFrom (p .sequence) k f) e)) (call-keeps p f k))
+
 -- ---- a step by the kept bound
 
 module _ (f : Filter) (up : Limit) (m : Outcome) where
@@ -128,7 +137,7 @@ module _ (p : Source) (f : Filter) (up : Limit) (is-within : f .state ≡ Within
   within-chained n =
       either (accepted (callOf p k f .said))
       (λ t. either (accepts up (to x .said)) (stays-in t) (λ a. clash (ap (λ (o : Sifting). isNone (o .said)) (first-is t ∙ settle-out f up (to x) a)) n))
-      (λ t. ap (callOf p l) (call-keeps p f k t))
+      (refused-chained p f k l)
 
   -- Where it does, the answer is the same and the filter is After, but its scan stands where the first seek left it (cutTable).
   pub within-chained-answer : (askThen p k l f .said ≡ callOf p l f .said) × (askThen p k l f .filter .state ≡ callOf p l f .filter .state)
@@ -141,12 +150,6 @@ module _ (p : Source) (f : Filter) (up : Limit) (is-within : f .state ≡ Within
         ap (λ (o : Sifting). o .filter .state) (e .0) ∙ sym (ap (λ (o : Sifting). o .filter .state) (e .1)),
       )))
       (λ t. (ap (λ (g : Filter). callOf p l g .said) (call-keeps p f k t), ap (λ (g : Filter). callOf p l g .filter .state) (call-keeps p f k t)))
-
--- ---- After: no call moves anything
-
-pub after-chained : (p : Source) (f : Filter) (k l : Call) → f .state ≡ After → askThen p k l f ≡ callOf p l f
-unfolding stepFrom
-after-chained p f k l e = ap (callOf p l) (either (accepted (callOf p k f .said)) (λ t. ap (λ (o : Sifting). o .filter) (call-does p f k t ∙ ap (stepFrom (p .sequence) k f) e)) (call-keeps p f k))
 
 -- ---- a new filter with a lower bound
 

@@ -21,7 +21,9 @@ use Rattle.meaning.specs.Sequence.{Sequence, Source, rises, elementsIn}
 use Rattle.meaning.proofs.Elements.{elements-parts}
 use Rattle.meaning.proofs.Rise.{ascends, rises-at}
 use Rattle.bounds.specs.declared.Limit.{Limit}
-use Rattle.bounds.specs.Bounds.{above, within}
+use Rattle.bounds.specs.declared.Bounds.{Bounds}
+use Rattle.bounds.specs.declared.Mode.{Mode}
+use Rattle.bounds.specs.Bounds.{above, within, greatest, least, bounds}
 use Rattle.loftsplice.specs.declared.listing.Listed.{Listed}
 use Rattle.loftsplice.specs.Listing.{Span, windows, those, valuesIn, valuesOf, Batch, low, up, values, saysListed, listOf, outAfter, countsAfter}
 use Rattle.loftsplice.proofs.Stretches.{those-join}
@@ -45,16 +47,6 @@ ordered-to [] start end h = leb-true start end h
 ordered-to (m ∷ ms) start end h =
     omega (arith, leb-true start m (and-left (leb start m) (ordered m ms end) h), ordered-to ms m end (and-right (leb start m) (ordered m ms end) h))
 
--- what holds of every window inside start..end holds of each part
-each-part : (p : Span → Bool) (lo end : ℕ) → ((a b : ℕ) → lo ≤ a → b ≤ end → p (window a b) ≡ true)
-    → (ms : List ℕ) (start : ℕ) → lo ≤ start → ordered start ms end ≡ true → every p (parts start ms end) ≡ true
-unfolding windows every ordered
-each-part p lo end f [] start l h = and-both (p (window start end)) true (f start end l (le-refl end)) refl
-each-part p lo end f (m ∷ ms) start l h =
-    let rest = and-right (leb start m) (ordered m ms end) h in
-    and-both (p (window start m)) (every p (parts m ms end)) (f start m l (ordered-to ms m end rest))
-    (each-part p lo end f ms m (omega (arith, leb-true start m (and-left (leb start m) (ordered m ms end) h))) rest)
-
 -- ---- the definitions: here the window need not rise
 
 module _ (q : Sequence) (low up : Limit) where
@@ -76,6 +68,16 @@ module _ (q : Sequence) (low up : Limit) where
       ∙ cut-values start m end (leb-true start m (and-left (leb start m) (ordered m ms end) h)) (ordered-to ms m end rest)
 
 -- ---- a part of a rising window rises
+
+-- what holds of every window inside start..end holds of each part
+each-part : (p : Span → Bool) (lo end : ℕ) → ((a b : ℕ) → lo ≤ a → b ≤ end → p (window a b) ≡ true)
+    → (ms : List ℕ) (start : ℕ) → lo ≤ start → ordered start ms end ≡ true → every p (parts start ms end) ≡ true
+unfolding windows every ordered
+each-part p lo end f [] start l h = and-both (p (window start end)) true (f start end l (le-refl end)) refl
+each-part p lo end f (m ∷ ms) start l h =
+    let rest = and-right (leb start m) (ordered m ms end) h in
+    and-both (p (window start m)) (every p (parts m ms end)) (f start m l (ordered-to ms m end rest))
+    (each-part p lo end f ms m (omega (arith, leb-true start m (and-left (leb start m) (ordered m ms end) h))) rest)
 
 rises-inside : (q : Sequence) (start end : ℕ) → rises q start end ≡ true → (a b : ℕ) → start ≤ a → b ≤ end → rises q a b ≡ true
 unfolding rises
@@ -168,7 +170,15 @@ module _ (w : Batch) (h : accepted (listOf w) ≡ true) (k : ℕ) (l : k < lengt
   share-is : (x : Share) → Shares w x → part (x .batch) (x .place) ≡ valuesBy (span (x .batch) (x .place))
   unfolding valuesIn
   share-is x s =
-      part-is (x .batch) (s .fine) (x .place) (s .there) ∙ rw (s .same-source, s .same-mode, s .same-lower, s .same-upper)
+      let b = x .batch in
+      part-is b (s .fine) (x .place) (s .there)
+      ∙ ap (λ (p : Source). under p (b .mode) (b .lower) (b .upper)) (s .same-source)
+      ∙ ap (λ (m : Mode). under (w .source) m (b .lower) (b .upper)) (s .same-mode)
+      ∙ ap (λ (lows : Bounds). under (w .source) (w .mode) lows (b .upper)) (s .same-lower)
+      ∙ ap (λ (ups : Bounds). under (w .source) (w .mode) (w .lower) ups) (s .same-upper)
+    where
+      under : Source → Mode → Bounds → Bounds → List ℤ
+      under p m lows ups = valuesIn (p .sequence) (greatest (bounds lows)) (least m (bounds ups)) (span (x .batch) (x .place))
 
   together-is : (xs : List Share) → ((x : Share) → In x xs → Shares w x) → together xs ≡ valuesOf (w .source .sequence) (low w) (up w) (windowsOf xs)
   unfolding together valuesOf

@@ -17,6 +17,7 @@
 //   Empty         the empty column
 //   Carried       document 01's `current` with the column, the three conditions of 6, and rows of the table for a scan that carries its value
 //   Places        a walk through a column from place to place
+//   Cuts          a window and its cuts, several people's parts, chained seeks, and rows of the table for where they end
 //
 // The theorems, proofs/:
 //   Demand3       a run of accepted calls answers what is expected; none stays; next alone lists; any run, refused calls among them
@@ -43,6 +44,10 @@
 //   EmptyColumn   the empty column, call by call
 //   Columns       each index lies in one run, every element fits, short windows rise
 //   Places        what a place tells of the elements that follow; a walk from place to place meets each run once and ends at the length
+//   Cuts          a listing of the parts of a rising window is that of the whole, in one call and in several people's
+//   CutRuns       the same asked one by one: runs of next on two scans, and through two filters
+//   Chained       a seek after a seek of a target not above its own leaves what it would at once; rising sequences of seeks
+//   ChainedFilter the same through a filter: Within, After, refused, and new with a lower bound
 //   Bounds        the folded bound is met exactly if every bound is, but for a tie of upper bounds where the inclusive one wins
 //
 // What stands behind them, proofs/:
