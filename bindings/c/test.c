@@ -617,6 +617,118 @@ static void listings(void) {
     LISTING(C, many, over_windows, many, over_windows, above, 1, exclusive, 1, 8, 4, LOFTSPLICE_BOUNDS, all, 0, counts, 0);
 }
 
+/* Request 13 of document 02: a window and its cuts, cuts[0]..cuts[1]..cuts[parts], each part a window of one listing: its output of 12 places that hold -77
+ * before, its counts of 4 that hold 99, and what it answers. */
+typedef struct limits {
+    int64_t low[1], up[2];
+    uint8_t low_kinds[1], up_kinds[2];
+    size_t lows, ups;
+} limits;
+typedef struct parted {
+    loftsplice_listed listed;
+    int64_t out[12];
+    uint64_t counts[4];
+} parted;
+
+static parted part_at(column c, uint32_t mode, const limits *l, const uint64_t *cuts, size_t parts) {
+    parted p;
+    for (size_t i = 0; i < 12; i++) p.out[i] = -77;
+    for (size_t i = 0; i < 4; i++) p.counts[i] = 99;
+    p.listed = loftsplice_list(LISTS(c), cuts, parts, cuts + 1, parts, mode, l->low, l->lows, l->low_kinds, l->lows, l->up, l->ups, l->up_kinds, l->ups, p.out, 12,
+        p.counts, 4);
+    return p;
+}
+
+/* The parts, listed in one call, against the whole: the answer, every byte of the output, the counts' sum, and the counts beyond. */
+static void joined(column c, uint32_t mode, const limits *l, const uint64_t *cuts, size_t parts) {
+    const uint64_t ends[] = {cuts[0], cuts[parts]};
+    parted whole = part_at(c, mode, l, ends, 1), cut = part_at(c, mode, l, cuts, parts);
+    SAME(whole.listed.refusal, 0), SAME(cut.listed.refusal, 0), SAME(cut.listed.sum, whole.listed.sum);
+    SAME(memcmp(cut.out, whole.out, sizeof whole.out), 0);
+    uint64_t sum = 0;
+    for (size_t i = 0; i < parts; i++) sum += cut.counts[i];
+    SAME(sum, whole.counts[0]);
+    for (size_t i = parts; i < 4; i++) SAME(cut.counts[i], 99);
+    /* and each in a call of its own, the last part first, joined afterwards */
+    int64_t out[12];
+    for (size_t i = 0; i < 12; i++) out[i] = -77;
+    for (size_t i = parts, end = whole.listed.sum; i > 0; i--) {
+        parted one = part_at(c, mode, l, cuts + i - 1, 1);
+        SAME(one.listed.refusal, 0), SAME(one.listed.sum, cut.counts[i - 1]);
+        end -= one.listed.sum;
+        memcpy(out + end, one.out, one.listed.sum * sizeof *out);
+    }
+    SAME(memcmp(out, whole.out, sizeof whole.out), 0);
+}
+
+/* Every window of a rising column, at every middle, both ends allowed, and at every two. */
+static void cut_everywhere(column c, uint64_t length, uint32_t mode, const limits *l) {
+    for (uint64_t start = 0; start <= length; start++) {
+        for (uint64_t end = start; end <= length; end++) {
+            for (uint64_t one = start; one <= end; one++) {
+                const uint64_t cut[] = {start, one, end};
+                joined(c, mode, l, cut, 2);
+                for (uint64_t two = one; two <= end; two++) {
+                    const uint64_t cuts[] = {start, one, two, end};
+                    joined(c, mode, l, cuts, 3);
+                }
+            }
+        }
+    }
+}
+
+static void cut_windows(void) {
+    const uint8_t in = LOFTSPLICE_INCLUSIVE, ex = LOFTSPLICE_EXCLUSIVE;
+    const limits all[] = {{{0}, {0, 0}, {0}, {0, 0}, 0, 0}, {{15}, {140, 0}, {ex}, {in, 0}, 1, 1}, {{16}, {31, 31}, {in}, {in, ex}, 1, 2}, {{300}, {5, 0}, {in}, {in, 0}, 1, 1}};
+    const limits last = {{INT64_MAX - 3}, {INT64_MAX, 0}, {ex}, {in, 0}, 1, 1};
+    for (uint32_t mode = LOFTSPLICE_INCLUSIVE_WINS; mode <= LOFTSPLICE_EXCLUSIVE_WINS; mode++) {
+        for (size_t i = 0; i < sizeof all / sizeof *all; i++) cut_everywhere(C, 9, mode, &all[i]), cut_everywhere(none, 0, mode, &all[i]);
+        cut_everywhere(edge, 8, mode, &last);
+    }
+    /* a middle outside 0..0 lists 10, which the whole does not have; D falls at 1, and both of its parts rise; a damaged column is refused in parts as whole */
+    const uint64_t outside[] = {0, 1, 0}, fall[] = {0, 1, 5}, whole[] = {0, 5};
+    parted p = part_at(C, LOFTSPLICE_INCLUSIVE_WINS, &all[0], outside, 2);
+    SAME(p.listed.refusal, 0), SAME(p.listed.sum, 1), SAME(p.out[0], 10);
+    SAME(part_at(D, LOFTSPLICE_INCLUSIVE_WINS, &all[0], whole, 1).listed.refusal, LOFTSPLICE_ORDER);
+    SAME(part_at(D, LOFTSPLICE_INCLUSIVE_WINS, &all[0], fall, 2).listed.sum, 5);
+    for (size_t parts = 1; parts <= 2; parts++) {
+        const uint64_t *cuts = parts == 1 ? whole : fall;
+        SAME(part_at(uneven, LOFTSPLICE_INCLUSIVE_WINS, &all[0], cuts, parts).listed.refusal, LOFTSPLICE_SHAPE);
+        SAME(part_at(standing, LOFTSPLICE_INCLUSIVE_WINS, &all[0], cuts, parts).listed.refusal, LOFTSPLICE_ENDS);
+        SAME(part_at(past_edge, LOFTSPLICE_INCLUSIVE_WINS, &all[0], cuts, parts).listed.refusal, LOFTSPLICE_REACH);
+    }
+}
+
+/* A first target and then a second that is not below it, against the second at once: answer and scan, from any scan. */
+static void chained_from(column c, loftsplice_scan s) {
+    static const int64_t targets[] = {INT64_MIN, -1, 9, 10, 11, 20, 25, 26, 31, 32, 140, 240, 241, INT64_MAX};
+    for (size_t first = 0; first < sizeof targets / sizeof *targets; first++) {
+        for (size_t second = first; second < sizeof targets / sizeof *targets; second++) {
+            loftsplice_moved m = loftsplice_scan_seek(s, LISTS(c), targets[first]), n = loftsplice_scan_seek(m.scan, LISTS(c), targets[second]);
+            loftsplice_moved once = loftsplice_scan_seek(s, LISTS(c), targets[second]);
+            same_answer_at(__LINE__, n.answer, once.answer.refusal, once.answer.found, once.answer.value);
+            same_scan_at(__LINE__, n.scan, once.scan);
+        }
+    }
+}
+
+static void chained_seeks(void) {
+    static const int64_t elements[] = {10, 15, 20, 25, 30, 31, 40, 140, 240};
+    for (uint64_t start = 0; start <= 9; start++) {
+        for (uint64_t end = start; end <= 9; end++) {
+            chained_from(C, (loftsplice_scan){start, end, 0, 0, LOFTSPLICE_FRESH, 0}), chained_from(C, (loftsplice_scan){start, end, 0, 0, LOFTSPLICE_ENDED, 0});
+            for (uint64_t i = start; i < end; i++) chained_from(C, (loftsplice_scan){start, end, i, elements[i], LOFTSPLICE_AT, 1});
+        }
+    }
+    /* refused 7, 6 and 1: the first seek leaves the scan */
+    chained_from(D, (loftsplice_scan){0, 5, 0, 0, LOFTSPLICE_FRESH, 0}), chained_from(C, (loftsplice_scan){0, 9, 1, 16, LOFTSPLICE_AT, 1});
+    chained_from(uneven, (loftsplice_scan){0, 9, 0, 0, LOFTSPLICE_FRESH, 0});
+    /* a filter that is Before with no lower bound ignores the first target alone: 10 and then 11 end at 15, 11 at once is 10 */
+    loftsplice_new_filter made = loftsplice_filter_new((loftsplice_scan){0, 9, 0, 0, LOFTSPLICE_FRESH, 0}, LOFTSPLICE_INCLUSIVE_WINS, NULL, 0, NULL, 0, NULL, 0, NULL, 0);
+    VALUE(seek_of(seek_of(made.filter, C, 10, no_lists).filter, C, 11, no_lists).answer, 15);
+    VALUE(seek_of(made.filter, C, 11, no_lists).answer, 10);
+}
+
 static void records(void) {
     static const uint8_t stored[] = {0x10, 0, 0, 0, 1, 0, 0x0A, 0, 0, 0, 0, 0, 0, 0, 0xFB, 0xFF, 2, 0, 0, 0, 0x77};
     int64_t starts[2] = {7, 7};
@@ -656,6 +768,8 @@ int main(void) {
     carried();
     filters();
     listings();
+    cut_windows();
+    chained_seeks();
     records();
     printf("c-test: %lu comparisons, %lu failed\n", made, failed);
     return failed != 0;
