@@ -685,6 +685,14 @@ static void cut_windows(void) {
         for (size_t i = 0; i < sizeof all / sizeof *all; i++) cut_everywhere(C, 9, mode, &all[i]), cut_everywhere(none, 0, mode, &all[i]);
         cut_everywhere(edge, 8, mode, &last);
     }
+    /* 256 parts pass, 257 do not */
+    for (size_t parts = 256; parts <= 257; parts++) {
+        uint64_t cuts[258] = {0}, counts[257] = {0};
+        int64_t out[9];
+        cuts[parts] = 9;
+        loftsplice_listed l = loftsplice_list(LISTS(C), cuts, parts, cuts + 1, parts, LOFTSPLICE_INCLUSIVE_WINS, NULL, 0, NULL, 0, NULL, 0, NULL, 0, out, 9, counts, 257);
+        SAME(l.refusal, parts == 256 ? 0 : LOFTSPLICE_BOUNDS), SAME(l.sum, parts == 256 ? 9 : 0), SAME(counts[parts - 1], parts == 256 ? 9 : 0);
+    }
     /* a middle outside 0..0 lists 10, which the whole does not have; D falls at 1, and both of its parts rise; a damaged column is refused in parts as whole */
     const uint64_t outside[] = {0, 1, 0}, fall[] = {0, 1, 5}, whole[] = {0, 5};
     parted p = part_at(C, LOFTSPLICE_INCLUSIVE_WINS, &all[0], outside, 2);

@@ -14,13 +14,13 @@ fn differences(text: &str) -> Vec<String> {
     found
 }
 
-/// P1 to P12, document 02's places, the cases of request 4, and scans that do not carry what they stand on, with every side that is there.
+/// P1 to P12, document 02's places, the cases of request 4, scans that do not carry what they stand on, cuts and chained seeks, with every side that is there.
 #[test]
 fn examples_of_the_documents() {
     let cases = corpus::cases(EXAMPLES).expect("the examples");
-    assert_eq!(cases.len(), 34);
+    assert_eq!(cases.len(), 45);
     let lines: usize = cases.iter().map(|c| c.lines.len()).sum();
-    assert_eq!(lines, 186);
+    assert_eq!(lines, 236);
     assert_eq!(differences(EXAMPLES), Vec::<String>::new());
 }
 

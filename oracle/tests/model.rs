@@ -68,6 +68,85 @@ fn listing_is_the_filter() {
     assert!(tried > 10_000, "{tried}");
 }
 
+/// Document 02, request 13: every window that rises, cut at every middle and at every two, is the whole: output, sum and counts; asked one by one too.
+#[test]
+fn cut_windows() {
+    let (mut tried, mut fell) = (0, 0);
+    for runs in small().into_iter().step_by(5) {
+        let c = Column::new(&runs);
+        let length = c.check().unwrap();
+        let both = |value: i64| vec![Bound { value, exclusive: false }, Bound { value, exclusive: true }];
+        for (lower, upper) in [(vec![], vec![]), (vec![Bound { value: 5, exclusive: true }], both(7)), (both(6), vec![])] {
+            for wins in [Wins::Inclusive, Wins::Exclusive] {
+                let said = |cuts: &[u64]| {
+                    let (from, to) = (cuts[..cuts.len() - 1].to_vec(), cuts[1..].to_vec());
+                    let (lower, upper, counts) = (lower.clone(), upper.clone(), from.len());
+                    Session::new(&c).call(&Call::List(Listing { from, to, wins, lower, upper, room: 50, counts }))
+                };
+                // a fresh scan narrowed to the window, a new filter, and next until none
+                let asked = |start, end| {
+                    let mut s = Session::new(&c);
+                    s.call(&Call::Narrow(start, end));
+                    s.call(&Call::FilterNew(wins, lower.clone(), upper.clone()));
+                    std::iter::from_fn(|| if let Said::Value(v) = s.call(&Call::FilterNext(Lists::default())) { Some(v) } else { None }).collect::<Vec<_>>()
+                };
+                for (start, end) in (0..=length).flat_map(|e| (0..=e).map(move |s| (s, e))) {
+                    let Said::Listed { sum: whole, out: values, .. } = said(&[start, end]) else {
+                        // its parts may rise though it falls
+                        fell += u32::from((start..=end).any(|m| matches!(said(&[start, m, end]), Said::Listed { .. })));
+                        continue;
+                    };
+                    for middle in start..=end {
+                        assert_eq!([asked(start, middle), asked(middle, end)].concat(), values, "{runs:?} {start}..{middle}..{end}");
+                        for cuts in std::iter::once(vec![start, middle, end]).chain((middle..=end).map(|m| vec![start, middle, m, end])) {
+                            let Said::Listed { sum, counts, out } = said(&cuts) else { panic!("{runs:?} {cuts:?} is refused") };
+                            assert_eq!((sum, counts.iter().sum::<u64>(), &out), (whole, whole, &values), "{runs:?} {cuts:?}");
+                            tried += 1;
+                        }
+                    }
+                }
+            }
+        }
+    }
+    assert!(tried > 10_000 && fell > 100, "{tried}, {fell}");
+}
+
+/// Document 02, request 13: from every state of every window, a target and then one that is not below it leave what the second does at once; a filter that is
+/// Before without a lower bound does not.
+#[test]
+fn chained_seeks() {
+    let (mut tried, mut refused) = (0, 0);
+    for runs in small().into_iter().step_by(3) {
+        let c = Column::new(&runs);
+        let length = c.check().unwrap();
+        for (start, end) in (0..=length).flat_map(|e| (0..=e).map(move |s| (s, e))) {
+            for nexts in 0..=end - start + 1 {
+                let seeks = |targets: &[i64]| {
+                    let mut s = Session::new(&c);
+                    s.call(&Call::Narrow(start, end));
+                    (0..nexts).for_each(|_| drop(s.call(&Call::Next)));
+                    let said = targets.iter().map(|&x| s.call(&Call::Seek(x))).last();
+                    (said, s.scan)
+                };
+                for (first, second) in (3..12).flat_map(|y| (3..=y).map(move |x| (x, y))) {
+                    assert_eq!(seeks(&[first, second]), seeks(&[second]), "{runs:?} {start}..{end} after {nexts}: {first}, {second}");
+                    tried += 1;
+                }
+                refused += u32::from(matches!(seeks(&[3]).0, Some(Said::Refused(7))));
+            }
+        }
+    }
+    assert!(tried > 100_000 && refused > 1_000, "{tried}, {refused}");
+    let ten = Runs::of(&[(10, 0, 1)]);
+    let column = Column::new(&ten);
+    let asks = |targets: &[i64]| {
+        let mut s = Session::new(&column);
+        s.call(&Call::FilterNew(Wins::Inclusive, vec![], vec![]));
+        targets.iter().map(|&x| s.call(&Call::FilterSeek(x, Lists::default()))).last()
+    };
+    assert_eq!((asks(&[10, 11]), asks(&[11])), (Some(Said::None), Some(Said::Value(10))));
+}
+
 /// In strict mode an element is given exactly if it meets every bound, each one for itself, constant or variable; in the other mode also where it is the
 /// least upper value and given both ways.
 #[test]
