@@ -2,7 +2,10 @@
 //! does it alone: `parts [PEOPLE]`, 4 without an argument.
 use std::{env, error::Error, ops::Range, slice, thread};
 
-use loftsplice::{list_in_mode, Bound, Column, Mode, Refusal};
+use loftsplice::{list_in_mode, Bound, Column, Mode};
+
+/// A refusal, or a window longer than memory.
+type Wrong = Box<dyn Error + Send + Sync>;
 
 /// What a window lists under the bounds, into an output of one's own.
 fn listed(
@@ -10,9 +13,9 @@ fn listed(
     column: Column<'_>,
     window: Range<u64>,
     (lower, upper): (&[Bound], &[Bound]),
-) -> Result<Vec<i64>, Refusal> {
-    let places = window.end.saturating_sub(window.start);
-    let (mut values, mut counts) = (vec![0; places as usize], [0]);
+) -> Result<Vec<i64>, Wrong> {
+    let places = usize::try_from(window.end.saturating_sub(window.start))?;
+    let (mut values, mut counts) = (vec![0; places], [0]);
     let windows = slice::from_ref(&window);
     let sum = list_in_mode(
         mode,
@@ -23,11 +26,11 @@ fn listed(
         &mut values,
         &mut counts,
     )?;
-    values.truncate(sum as usize);
+    values.truncate(usize::try_from(sum)?);
     Ok(values)
 }
 
-fn main() -> Result<(), Box<dyn Error>> {
+fn main() -> Result<(), Wrong> {
     let people: u64 = env::args().nth(1).map_or(Ok(4), |n| n.parse())?;
     // 10 15 20 25, 30, 31, 40 140 240, and 250 253 .. 3247
     let column = Column::new(
@@ -42,7 +45,7 @@ fn main() -> Result<(), Box<dyn Error>> {
     );
     for mode in [Mode::InclusiveWins, Mode::ExclusiveWins] {
         let middle = |k: u64| window.start + (window.end - window.start) * k / people.max(1);
-        let lists: Vec<Result<Vec<i64>, Refusal>> = thread::scope(|scope| {
+        let lists: Vec<Result<Vec<i64>, Wrong>> = thread::scope(|scope| {
             let threads: Vec<_> = (0..people.max(1))
                 .map(|k| (middle(k), middle(k + 1)))
                 .map(|(from, to)| scope.spawn(move || listed(mode, column, from..to, bounds)))
