@@ -302,7 +302,8 @@ loftsplice_new_scan loftsplice_scan_new(const int64_t *starts, size_t starts_len
 loftsplice_moved loftsplice_scan_next(loftsplice_scan scan, const int64_t *starts, size_t starts_len, const uint64_t *ends, size_t ends_len,
     const int16_t *steps, size_t steps_len);
 
-/* To the first element from here on that is not below the target, or none; or refused 100, 1, 2, 3, 6, 7. O(R). */
+/* To the first element from here on that is not below the target, or none; or refused 100, 1, 2, 3, 6, 7. After a seek of a target that is not above its
+ * own it answers and leaves what it would at once. O(R). */
 loftsplice_moved loftsplice_scan_seek(loftsplice_scan scan, const int64_t *starts, size_t starts_len, const uint64_t *ends, size_t ends_len,
     const int16_t *steps, size_t steps_len, int64_t target);
 
@@ -354,7 +355,8 @@ loftsplice_reset loftsplice_filter_reset(loftsplice_filter filter);
 
 /* Writes the values of each window from[i]..to[i] that meet the constant bounds into out, window by window, and each window's number of values into
  * counts; answers their sum. One mode for all windows. What it does not fill stays as it was; a refusal writes nothing. Refused 100, 1, 2, 3, 8, 5, 7,
- * 10. O(R + W * R + N). */
+ * 10. The parts of a window that rises, in one call or in several, in any order and from any threads, joined in their order are the list of the whole.
+ * O(R + W * R + N). */
 loftsplice_listed loftsplice_list(const int64_t *starts, size_t starts_len, const uint64_t *ends, size_t ends_len, const int16_t *steps,
     size_t steps_len, const uint64_t *from, size_t from_len, const uint64_t *to, size_t to_len, uint32_t mode, const int64_t *lower_values,
     size_t lower_values_len, const uint8_t *lower_kinds, size_t lower_kinds_len, const int64_t *upper_values, size_t upper_values_len,

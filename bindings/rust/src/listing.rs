@@ -18,6 +18,22 @@ use crate::{raw, Bound, Column, Mode, Refusal};
 /// # Ok::<(), Refusal>(())
 /// ```
 ///
+/// The parts of a window that rises, listed in one call or in several, in any order and from any threads, joined in their order are the list of the whole
+/// (the example `parts` has a thread a part).
+///
+/// ```
+/// use loftsplice::{list, Column, Refusal};
+///
+/// let column = Column::new(&[10, 30], &[4, 5], &[5, 0])?; // 10 15 20 25, 30
+/// let (mut whole, mut parts, mut counts) = ([0; 4], [0; 4], [0; 2]);
+/// list(column, &[1..5], &[], &[], &mut whole, &mut counts)?;
+/// for middle in 1..=5 {
+///     assert_eq!(list(column, &[1..middle, middle..5], &[], &[], &mut parts, &mut counts)?, 4);
+///     assert_eq!((parts, counts[0] + counts[1]), (whole, 4));
+/// }
+/// # Ok::<(), Refusal>(())
+/// ```
+///
 /// # Errors
 ///
 /// [`Refusal::Bounds`], [`Refusal::Window`], [`Refusal::Order`], [`Refusal::Room`], and then nothing is written.

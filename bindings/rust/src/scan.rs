@@ -124,6 +124,17 @@ impl<'a> Scan<'a> {
     /// # Ok::<(), Refusal>(())
     /// ```
     ///
+    /// Targets of which none is below the one before leave the scan where the last alone would, and each is answered as if alone.
+    ///
+    /// ```
+    /// use loftsplice::{Column, Refusal};
+    ///
+    /// let (mut one, mut two) = (Column::new(&[10], &[4], &[5])?.scan(), Column::new(&[10], &[4], &[5])?.scan()); // 10 15 20 25
+    /// one.seek(11)?;
+    /// assert_eq!((one.seek(16)?, one.state()), (two.seek(16)?, two.state()));
+    /// # Ok::<(), Refusal>(())
+    /// ```
+    ///
     /// # Errors
     ///
     /// [`Refusal::Order`] if the window doesn't rise.

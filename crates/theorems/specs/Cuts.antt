@@ -10,8 +10,11 @@ use lib.IntN.{ℤ, pos}
 use Rattle.ranges.specs.Ranges.{someOf}
 use Rattle.meaning.specs.Refusals.{Said, Gives, Number}
 use Rattle.meaning.specs.Sequence.{Source}
-use Rattle.meaning.specs.Column.{Column}
+use Rattle.meaning.specs.Column.{Column, sourceOf}
 use Rattle.bounds.specs.declared.BoundaryType.the-variants.{Inclusive}
+use Rattle.bounds.specs.declared.Bound.{Bound}
+use Rattle.bounds.specs.declared.Mode.the-variants.{InclusiveWins}
+use Rattle.bounds.specs.declared.Limit.the-variants.{Free, To}
 use Rattle.loftsplice.specs.declared.scan.Move.the-variants.{Next, Seek}
 use Rattle.loftsplice.specs.declared.scan.State.the-variants.{Fresh, Ended}
 use Rattle.loftsplice.specs.declared.scan.Carried.the-variants.{None as Nothing}
@@ -19,11 +22,12 @@ use Rattle.loftsplice.specs.declared.scan.Scan.{Scan}
 use Rattle.loftsplice.specs.Scan.{Outcome, seekOf, Call, Go}
 use Rattle.loftsplice.specs.Listing.{Span, windows, Batch, listOf}
 use Rattle.filter_interval.specs.declared.Filter.{Filter}
+use Rattle.filter_interval.specs.declared.FilterState.the-variants.{Within}
 use Rattle.filter_interval.specs.Filter.{Sifting, callOf, Call as FilterCall}
 use Rattle.theorems.specs.Exact.{accepted}
 use Rattle.theorems.specs.Runs.{isNone}
 use Rattle.theorems.specs.Batch.{span, part, count}
-use Rattle.theorems.specs.Table.{Row, own, Seen, scanned, filtered, listed, column, run, seek, acts, scan, again, call, atMost, filter, list, these, bound, value, nothing, index, noIndex}
+use Rattle.theorems.specs.Table.{Row, own, Seen, scanned, filtered, listed, column, run, seek, acts, scan, FilterAct, again, call, sifts, atMost, filter, list, these, bound, value, nothing, index, noIndex}
 use Rattle.theorems.specs.Carried.{ten, byHand, held, six}
 
 -- ---- cut windows
@@ -126,12 +130,14 @@ level = column (run 10 (pos 0) 2 ∷ [])
 abbrev pub lists : Column → List ℕ → List ℕ → Seen
 lists c ss es = list c ss es (these []) (these []) (map pos (1 ∷ 2 ∷ 3 ∷ [])) (7 ∷ 7 ∷ 7 ∷ [])
 
--- seeks through a filter without bounds, and through one with "from 1 on"
-abbrev pub asks : List ℕ → Seen
-asks xs = filter ten (these []) (these []) (map (λ x. call (Seek (pos x))) xs)
+-- seeks through a new filter with these lower bounds and no upper ones
+abbrev pub asks : Column → List Bound → List ℕ → Seen
+asks c lows xs = filter c (these lows) (these []) (map (λ x. call (Seek (pos x))) xs)
 
-abbrev pub asksFrom1 : List ℕ → Seen
-asksFrom1 xs = filter ten (these (bound Inclusive 1 ∷ [])) (these []) (map (λ x. call (Seek (pos x))) xs)
+-- calls on a filter put together by hand over a fresh scan of 10, "from 1 on", which keeps "at most 5"
+abbrev pub keepsAtMost5 : List FilterAct → Seen
+keepsAtMost5 as′ =
+    filtered (sifts (sourceOf ten) as′ (record { scan = byHand 1 Fresh Nothing; mode = InclusiveWins; lower = To (bound Inclusive 1); upper = Free; state = Within (To (bound Inclusive 5)) }))
 
 abbrev pub cutTable : List Row
 cutTable =
@@ -163,15 +169,20 @@ cutTable =
     ∷ own (acts ten (byHand 1 Ended Nothing) (seek 10 ∷ seek 11 ∷ [])) (scanned (nothing ∷ nothing ∷ []) noIndex)
     ∷ own (acts ten (byHand 1 Ended Nothing) (seek 11 ∷ [])) (scanned (nothing ∷ []) noIndex)
     -- a filter that is Before with no lower bound ignores the target of its first seek, and not that of its second
-    ∷ own (asks (10 ∷ 11 ∷ [])) (filtered (value 10 ∷ nothing ∷ []))
-    ∷ own (asks (11 ∷ [])) (filtered (value 10 ∷ []))
-    -- with one it does not
-    ∷ own (asksFrom1 (10 ∷ 11 ∷ [])) (filtered (value 10 ∷ nothing ∷ []))
-    ∷ own (asksFrom1 (11 ∷ [])) (filtered (nothing ∷ []))
+    ∷ own (asks ten [] (10 ∷ 11 ∷ [])) (filtered (value 10 ∷ nothing ∷ []))
+    ∷ own (asks ten [] (11 ∷ [])) (filtered (value 10 ∷ []))
+    -- with one it does not; and over no elements it has none to give
+    ∷ own (asks ten (bound Inclusive 1 ∷ []) (10 ∷ 11 ∷ [])) (filtered (value 10 ∷ nothing ∷ []))
+    ∷ own (asks ten (bound Inclusive 1 ∷ []) (11 ∷ [])) (filtered (nothing ∷ []))
+    ∷ own (asks (column []) [] (10 ∷ 11 ∷ [])) (filtered (nothing ∷ nothing ∷ []))
+    ∷ own (asks (column []) [] (11 ∷ [])) (filtered (nothing ∷ []))
     -- a filter that is Within "at most 10" over 10 20: a first seek of 11 leaves it After and its scan on 20, where a seek of 21 at once leaves the scan
     -- ended; both answer none, and a reset shows the difference
     ∷ own (filter two (these (bound Inclusive 1 ∷ [])) (these []) (atMost 10 ∷ call (Seek (pos 11)) ∷ call (Seek (pos 21)) ∷ again ∷ call Next ∷ []))
     (filtered (value 10 ∷ nothing ∷ nothing ∷ nothing ∷ value 20 ∷ []))
     ∷ own (filter two (these (bound Inclusive 1 ∷ [])) (these []) (atMost 10 ∷ call (Seek (pos 21)) ∷ again ∷ call Next ∷ []))
     (filtered (value 10 ∷ nothing ∷ nothing ∷ nothing ∷ []))
+    -- over 10 alone no calls lead there: it takes a filter put together by hand, Within over a fresh scan
+    ∷ own (keepsAtMost5 (call (Seek (pos 6)) ∷ call (Seek (pos 11)) ∷ again ∷ call Next ∷ [])) (filtered (nothing ∷ nothing ∷ nothing ∷ value 10 ∷ []))
+    ∷ own (keepsAtMost5 (call (Seek (pos 11)) ∷ again ∷ call Next ∷ [])) (filtered (nothing ∷ nothing ∷ nothing ∷ []))
     ∷ []
