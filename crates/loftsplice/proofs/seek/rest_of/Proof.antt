@@ -1,7 +1,7 @@
 -- `seek::rest_of` meets its contract. Assumes nothing.
 use native.Mathlib.Omega.{arith}
 use mathlib.Core.Path.{refl, sym, ap, _∙_}
-use Rattle.loftsplice.specs.Inner.{standing}
+use Rattle.loftsplice.specs.Scan.{standing}
 use Rattle.loftsplice.proofs.ScanCases.{stood-at}
 use borrow.Author.Needs.{needs}
 use Rattle.loftsplice.proofs.seek.rest_of.Statement.{statement}
