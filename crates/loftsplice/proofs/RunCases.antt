@@ -47,7 +47,7 @@ module _ (q : Sequence) where
   next-goes s (At i) = refl
   next-goes s Ended = rw (le-ltb (s .end) (s .end) (le-refl _))
 
-  move-goes : (m : Move) (s : Scan) → moveScan q m s ≡ goTo q s (aim q m s)
+  pub move-goes : (m : Move) (s : Scan) → moveScan q m s ≡ goTo q s (aim q m s)
   move-goes Next s = next-goes s (s .state)
   move-goes (Seek x) s = sym (seek-goes q s x (s .state))
 

@@ -5,7 +5,6 @@ use mir.Syntax.{w64}
 use Rattle.meaning.specs.declared.Place.{Place}
 use Rattle.keys.proofs.Bits.{back}
 use Rattle.loftsplice.proofs.RunCases.{footing-past, footing-on}
-use borrow.Author.Needs.{needs}
 use Rattle.loftsplice.proofs.running.footing_in.Statement.{statement}
 use Rattle.loftsplice.proofs.running.footing_in.Tie as tie
 

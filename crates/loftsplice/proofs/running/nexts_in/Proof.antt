@@ -19,6 +19,12 @@ col s = columnNow (s .args .starts) (s .args .ends) (s .args .steps)
 within : (s : tie.Start) → s .args .scan .end ≤ sizeOf (col s)
 within s = end-in (sequenceOf (col s)) (s .args .scan) (s .pre .1)
 
+-- an element is ahead, or none
+abbrev origin : tie.After-ahead-of → tie.Start
+origin c =
+    let at-else = c .before in
+    at-else .before .before
+
 returns : tie.Need-returns
 returns c = let s = c .before .before in nexts-nowhere (sequenceOf (col s)) (s .args .scan) (s .args .out .now) (c .if1 .taken)
 
@@ -29,7 +35,7 @@ ahead-of-requires c κs = λ i e.
 
 returns-2 : tie.Need-returns-2
 returns-2 c =
-    let s = c .before .before .before .before in
+    let s = origin (c .before) in
     nexts-ended (sequenceOf (col s)) (s .args .scan) (s .args .out .now) _ (c .before .ahead-of .ensures) (omega (arith, c .before .before .if1 .left)) (c .if2 .taken)
 
 sub-left : tie.Need-sub-left
@@ -38,7 +44,7 @@ sub-left c = search needs
 write-stretch-requires : tie.Need-write-stretch-requires
 write-stretch-requires c κs =
     let e = c .before .before in
-    let s = e .before .before .before .before in
+    let s = origin (e .before) in
     (s .pre .0, (omega (arith, e .if2 .left), (within s, omega (arith, c .before .if3 .taken))))
 
 same-length : tie.Need-same-length
@@ -48,7 +54,7 @@ returns-3 : tie.Need-returns-3
 returns-3 c =
     let w = c .before in
     let e = w .before .before .before in
-    let s = e .before .before .before .before in
+    let s = origin (e .before) in
     nexts-to-end (sequenceOf (col s)) (s .args .scan) (s .args .out .now) _ (e .before .ahead-of .ensures) (omega (arith, e .before .before .if1 .left)) _ (omega (arith, e .if2 .left)) (w .before .before .if3 .taken) (w .write-stretch .ensures)
 
 add-write-stretch : tie.Need-add-write-stretch
@@ -57,7 +63,7 @@ add-write-stretch c = search needs
 write-stretch-requires-2 : tie.Need-write-stretch-requires-2
 write-stretch-requires-2 c κs =
     let e = c .before .before in
-    let s = e .before .before .before .before in
+    let s = origin (e .before) in
     (s .pre .0, (omega arith, (omega (arith, within s, e .if2 .left, c .before .if3 .left), omega arith)))
 
 sub-value : tie.Need-sub-value
@@ -82,9 +88,8 @@ returns-4 : tie.Need-returns-4
 returns-4 c =
     let w = c .before .before in
     let e = w .before .before .before in
-    let at-else = e .before .before in
-    let s = at-else .before .before in
-    nexts-to-full (sequenceOf (col s)) (s .args .scan) (s .args .out .now) _ (e .before .ahead-of .ensures) (omega (arith, at-else .if1 .left)) _ _ _ _ _
+    let s = origin (e .before) in
+    nexts-to-full (sequenceOf (col s)) (s .args .scan) (s .args .out .now) _ (e .before .ahead-of .ensures) (omega (arith, e .before .before .if1 .left)) _ _ _ _ _
     (w .before .before .if3 .left) (omega (arith, e .if2 .left)) refl refl (w .write-stretch2 .ensures) (omega arith) (back w64 _ (c .value .given))
 
 pub nexts-in-spec : {M : Type 1} → statement M

@@ -1,0 +1,5 @@
+pub mod Landings
+pub mod Hops
+pub mod Footings
+pub mod Strips
+pub mod SeekRuns
