@@ -19,6 +19,7 @@ pub mod Modes
 pub mod ScanRuns
 pub mod Seeks
 pub mod Audit
+pub mod RunCalls
 pub mod Table
 pub mod Parts
 pub mod Batch

@@ -55,7 +55,8 @@ module _ (p : Source) (s e : ℕ) where
   allowed-alike m c r =
       rw (restricted-bad (p .sequence) c r, r .same-start, r .same-end, restricted-bad (p .sequence) (fresh s e) (fresh-restricted (p .sequence) s e))
 
-  run-accepted : (ms : List Move) (c : Scan) → Restricted (p .sequence) s e c → every accepted (scanAnswers p c ms) ≡ every (λ m. allowedScan p m (fresh s e)) ms
+  -- on a scan that keeps to a window each call is accepted as it would be on a fresh one
+  pub run-accepted : (ms : List Move) (c : Scan) → Restricted (p .sequence) s e c → every accepted (scanAnswers p c ms) ≡ every (λ m. allowedScan p m (fresh s e)) ms
   unfolding every saysAll
   run-accepted [] c r = refl
   run-accepted (m ∷ ms) c r =

@@ -44,9 +44,15 @@ use Rattle.filter_interval.specs.declared.Fitted.the-variants.{Ready as FittedR
 use Rattle.filter_interval.specs.declared.Sifted.{Sifted}
 use Rattle.loftsplice.specs.declared.listing.Listed.{Listed}
 use Rattle.loftsplice.specs.declared.listing.Listed.the-variants.{Sum, Refused as ListedRefused}
+use Rattle.loftsplice.specs.declared.running.Counted.{Counted}
+use Rattle.loftsplice.specs.declared.running.Counted.the-variants.{Values, Refused as RunRefused}
+use Rattle.loftsplice.specs.declared.running.Ran.{Ran}
+use Rattle.loftsplice.specs.declared.running.Footed.{Footed}
+use Rattle.loftsplice.specs.declared.running.Footed.the-variants.{On, Past as PastWindow, Refused as FootedRefused}
 use Rattle.checked.specs.Says.{saysChecked}
 use Rattle.loftsplice.specs.Says.{saysDifference, saysLength, saysEmptiness, saysPlaced, saysGot}
 use Rattle.loftsplice.specs.Scan.{saysAnswer, saysPosition, saysMade, outcomeOf, newOf, nextOf, seekOf, narrowOf, resetOf, currentOf, posOf}
+use Rattle.loftsplice.specs.Running.{saysCounted, tallyOf, nextRunOf, nextRunOut, seekRunOf, seekRunOut, saysFooted, footingOf}
 use Rattle.loftsplice.specs.Listing.{saysListed, Batch, listOf, outAfter, countsAfter}
 use Rattle.filter_interval.specs.Filter.{Call, saysFitted, siftingOf, fitOf, callOf, filterCurrentOf, filterResetOf}
 
@@ -103,6 +109,18 @@ outcome-apart = undone outcomeOf (λ o. record { scan = o .scan; answer = answer
 pub sifting-apart : Injective siftingOf
 sifting-apart = undone siftingOf (λ o. record { filter = o .filter; answer = answerOf (o .said) }) (λ m. rw (answer-is (m .answer)))
 
+-- of a run of calls, with the scan; and where a run of seeks begins
+pub tally-apart : Injective tallyOf
+tally-apart = undone tallyOf (λ t. record { scan = t .scan; counted = answering Values RunRefused (t .said) })
+    (λ r. rw (counted-is (r .counted)))
+  where
+    counted-is : (n : Counted) → answering Values RunRefused (saysCounted n) ≡ n
+    counted-is = elim [ Values n ↦ refl | RunRefused w ↦ ap RunRefused (refusal-is w) ]
+
+pub footed-apart : Injective saysFooted
+footed-apart = undone saysFooted (answering (elim [ some f ↦ On f | none ↦ PastWindow ]) FootedRefused)
+    (elim [ On f ↦ refl | PastWindow ↦ refl | FootedRefused w ↦ ap FootedRefused (refusal-is w) ])
+
 -- ---- a line a call
 
 pub diff-step-one : (previous current : ℤ) (x y : Difference) → saysDifference x ≡ diffStepOf previous current → saysDifference y ≡ diffStepOf previous current → x ≡ y
@@ -154,6 +172,22 @@ module _ (p : Source) where
 
     pub pos-one : (x y : Position) → saysPosition x ≡ posOf p s → saysPosition y ≡ posOf p s → x ≡ y
     pos-one = one-result saysPosition position-apart
+
+    -- runs of calls: the answer, and the content of the output
+    pub next-run-one : (places : ℕ) (x y : Ran) → tallyOf x ≡ nextRunOf p places s → tallyOf y ≡ nextRunOf p places s → x ≡ y
+    next-run-one places = one-result tallyOf tally-apart
+
+    pub next-run-out-one : (old x y : List ℤ) → x ≡ nextRunOut p old s → y ≡ nextRunOut p old s → x ≡ y
+    next-run-out-one old = one-result (λ x. x) (λ x y e. e)
+
+    pub seek-run-one : (targets : List ℤ) (places : ℕ) (x y : Ran) → tallyOf x ≡ seekRunOf p targets places s → tallyOf y ≡ seekRunOf p targets places s → x ≡ y
+    seek-run-one targets places = one-result tallyOf tally-apart
+
+    pub seek-run-out-one : (targets old x y : List ℤ) → x ≡ seekRunOut p targets old s → y ≡ seekRunOut p targets old s → x ≡ y
+    seek-run-out-one targets old = one-result (λ x. x) (λ x y e. e)
+
+    pub find-footing-one : (c : Column) (x y : Footed) → saysFooted x ≡ footingOf c s → saysFooted y ≡ footingOf c s → x ≡ y
+    find-footing-one c = one-result saysFooted footed-apart
 
   module _ (f : Filter) where
     -- next and seek

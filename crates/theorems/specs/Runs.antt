@@ -1,9 +1,11 @@
 -- More words for runs of calls: lists and walks, ties, runs on a scan, and which runs are accepted. Assumes nothing.
 use Prim.Native.Nat.{ℕ, zero, suc}
+use mathlib.Core.Path.{_≡_}
 use mathlib.Core.Bool.{Bool, true, false, cond, not, _&&_, _||_}
 use mathlib.Core.List.{List, [], _∷_, map}
 use mathlib.Core.Option.{Option, some, none}
 use lib.Dec.{ltb}
+use lib.ListN.{length}
 use lib.IntN.{ℤ}
 use lib.Signed.{ltZ}
 use Rattle.ranges.specs.Ranges.{every}
@@ -18,7 +20,8 @@ use Rattle.bounds.specs.declared.Bound.{Bound}
 use Rattle.bounds.specs.declared.Mode.{Mode}
 use Rattle.bounds.specs.declared.Mode.the-variants.{InclusiveWins, ExclusiveWins}
 use Rattle.filter_interval.specs.declared.Filter.{Filter}
-use Rattle.loftsplice.specs.Scan.{badScan, Go, saysAll}
+use Rattle.loftsplice.specs.Scan.{badScan, Go, saysAll, leftBy}
+use Rattle.loftsplice.specs.Running.{Run}
 use Rattle.bounds.specs.Bounds.{meetsLower, meetsUpper}
 use Rattle.filter_interval.specs.Filter.{tooMany, Call, callOf, allReadable}
 use Rattle.loftsplice.specs.Listing.{those}
@@ -96,6 +99,14 @@ letThrough mode lows ups v = every (meetsLower v) lows && (every (meetsUpper v) 
 -- next and seek alone, one after the other
 abbrev pub scanAnswers : Source → Scan → List Move → List (Said (Option ℤ))
 scanAnswers p s ms = saysAll p s (map Go ms)
+
+-- calls one after the other answer the values of a run, and after them none, and leave its scan
+abbrev pub AsCalls : Source → List Move → Scan → Run → Type 0
+AsCalls p ms s r = (scanAnswers p s ms ≡ listing (length ms) (r .values)) × (leftBy p s (map Go ms) ≡ r .scan)
+
+-- what a run answers each of its targets: a value, or none
+abbrev pub answersIn : List ℤ → Run → List (Said (Option ℤ))
+answersIn targets r = listing (length targets) (r .values)
 
 -- with no bounds every element meets them
 abbrev pub anything : ℤ → Bool

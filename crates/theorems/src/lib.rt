@@ -27,6 +27,7 @@
 //   Audit         a number is answered with itself exactly if it is in the column; the filled logs are those that lack it; through a filter
 //   Refused       on a rising presence column no search is refused, so no log is filled by a refusal; on another each is, and would be
 //   ScanRuns      runs on one scan: nothing is stepped past, next alone gives every element, all answer what is expected
+//   RunCalls      a run of calls in one call: refused exactly if, equal to single calls, cut in two, demand 3 and the auditor's theorem of one call
 //   Batch         a window's part of the output is what next alone gives; its count; the sum; what is left alone; windows that repeat
 //   Table         the table's one theorem, computed
 //   Unique        two results that meet one promise are equal, a line a call
