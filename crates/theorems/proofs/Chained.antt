@@ -19,8 +19,7 @@ use Rattle.loftsplice.specs.declared.scan.Move.the-variants.{Seek}
 use Rattle.loftsplice.specs.declared.scan.Moved.{Moved}
 use Rattle.loftsplice.specs.declared.scan.State.{State}
 use Rattle.loftsplice.specs.declared.scan.Scan.{Scan}
-use Rattle.loftsplice.specs.Scan.{Outcome, outcomeOf, goTo, seekFrom, badScan, seekOf, saysAll, leftBy}
-use Rattle.loftsplice.specs.Inner.{standing}
+use Rattle.loftsplice.specs.Scan.{Outcome, outcomeOf, standing, goTo, seekFrom, badScan, seekOf, saysAll, leftBy}
 use Rattle.loftsplice.proofs.ScanCases.{seek-goes}
 use Rattle.theorems.specs.Exact.{accepted, soundSource}
 use Rattle.theorems.specs.Audit.{ascendingFrom, ascending, seeks}
