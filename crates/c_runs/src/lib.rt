@@ -2,7 +2,7 @@
 ghost use mathlib.Core.Path.{_≡_};
 ghost use lib.ListN.{length};
 ghost use Rattle.meaning.specs.Contracts.{source};
-ghost use Rattle.loftsplice.specs.Running.{tallyOf, refuseRun, nextRunOf, nextRunOut};
+ghost use Rattle.loftsplice.specs.Running.{tallyOf, refuseRun, nextRunOf, nextRunOut, seekRunOf, seekRunOut};
 ghost use Rattle.c_forms.specs.Flat.{form};
 ghost use Rattle.c_forms.specs.Scan.{scanOf};
 ghost use Rattle.c_runs.specs.Runs.{flatRan, callRun, leftBy};
@@ -14,6 +14,7 @@ use loftsplice::refusal::number;
 use loftsplice::running::Counted;
 use loftsplice::running::Ran;
 use loftsplice::running::next_run;
+use run_calls::seek_run;
 
 // The scan after the run, a refusal's number or 0, and the number of values.
 #[repr(C)]
@@ -68,6 +69,27 @@ pub extern "C" fn loftsplice_scan_next_run(
 {
     if is_scan(scan) {
         let ran = next_run(scan_of(scan), starts, ends, steps, out);
+        flat_ran(scan, ran)
+    } else {
+        bad_run(scan)
+    }
+}
+
+// A seek of each target in turn, in any order, up to the first none; or refused 100, 1, 2, 3, 6, 7, 10.
+#[no_mangle]
+pub extern "C" fn loftsplice_scan_seek_run(
+    scan: FlatScan,
+    starts: &[i64],
+    ends: &[u64],
+    steps: &[i16],
+    targets: &[i64],
+    out: &mut [i64],
+) -> FlatRan
+    ensures { λ r. ⌜ r ≡ callRun scan (seekRunOf (source starts ends steps) (now (targets .entry)) (length (now (out .entry)))) ⌝ }
+    ensures { λ _. ⌜ now (out .exit) ≡ leftBy scan (seekRunOut (source starts ends steps) (now (targets .entry)) (now (out .entry))) (now (out .entry)) ⌝ }
+{
+    if is_scan(scan) {
+        let ran = seek_run(scan_of(scan), starts, ends, steps, targets, out);
         flat_ran(scan, ran)
     } else {
         bad_run(scan)
