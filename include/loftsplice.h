@@ -15,8 +15,8 @@
  * Threads: the library keeps nothing between calls, has no data of its own that is written, and writes into the lists that are handed over for it and
  * nowhere else. So any number of threads may call at once, also on one column, as long as nobody writes to its lists meanwhile.
  *
- * Cost: each call's comment ends with it. R is the number of runs, W of windows, N of elements written; bounds and inputs, of which there are few, count
- * as constant. The O(R) is the check of the whole column that each call on one begins with. The costs are read off the code; answers are proved.
+ * Cost: each call's comment ends with it. R is the number of runs, W of windows, T of targets, N of elements written; bounds and inputs, of which there
+ * are few, count as constant. The O(R) is the check of the whole column that each call on one begins with. The costs are read off the code; answers are proved.
  */
 #ifndef LOFTSPLICE_H
 #define LOFTSPLICE_H
@@ -47,7 +47,7 @@ enum {
     LOFTSPLICE_INDEX = 4,   /* element asked at index >= length; place asked above length */
     LOFTSPLICE_WINDOW = 5,  /* window end above length */
     LOFTSPLICE_SCAN = 6,    /* the scan's window end is above length, its index is outside its window, or it does not carry the element that it is at */
-    LOFTSPLICE_ORDER = 7,   /* seek, filter or listing over a window that doesn't rise */
+    LOFTSPLICE_ORDER = 7,   /* seek, run of seeks, filter or listing over a window that doesn't rise */
     LOFTSPLICE_BOUNDS = 8,  /* over LOFTSPLICE_MAX_BOUNDS bounds in a list, over LOFTSPLICE_MAX_INPUTS inputs; over LOFTSPLICE_MAX_WINDOWS windows, or
                              * window lists of unequal length */
     LOFTSPLICE_INPUT = 9,   /* Before only: a variable bound names an input that isn't there or has no value */
@@ -179,6 +179,13 @@ typedef struct loftsplice_moved {
     loftsplice_answer answer;
 } loftsplice_moved;
 
+/* The scan as a run of calls leaves it, and the number of values that they gave. */
+typedef struct loftsplice_ran {
+    loftsplice_scan scan;
+    uint32_t refusal;
+    uint64_t count;
+} loftsplice_ran;
+
 /* A new filter. */
 typedef struct loftsplice_new_filter {
     uint32_t refusal;
@@ -254,6 +261,7 @@ LOFTSPLICE_LAYOUT_3(loftsplice_answer, 16, refusal, 0, found, 4, value, 8);
 LOFTSPLICE_LAYOUT_3(loftsplice_position, 16, refusal, 0, found, 4, index, 8);
 LOFTSPLICE_LAYOUT_2(loftsplice_new_scan, 48, refusal, 0, scan, 8);
 LOFTSPLICE_LAYOUT_2(loftsplice_moved, 56, scan, 0, answer, 40);
+LOFTSPLICE_LAYOUT_3(loftsplice_ran, 56, scan, 0, refusal, 40, count, 48);
 LOFTSPLICE_LAYOUT_2(loftsplice_new_filter, 104, refusal, 0, filter, 8);
 LOFTSPLICE_LAYOUT_2(loftsplice_sifted, 112, filter, 0, answer, 96);
 LOFTSPLICE_LAYOUT_2(loftsplice_reset, 104, refusal, 0, filter, 8);
@@ -322,6 +330,19 @@ loftsplice_answer loftsplice_scan_current(loftsplice_scan scan);
 /* The index that the scan is at, or none; or refused 100, 1, 2, 3, 6. O(R). */
 loftsplice_position loftsplice_scan_pos(loftsplice_scan scan, const int64_t *starts, size_t starts_len, const uint64_t *ends, size_t ends_len,
     const int16_t *steps, size_t steps_len);
+
+/* Many moves of a scan behind one check of its column: the values are the answers of the single calls one after the other, the scan is the one that the
+ * last of them leaves. Each run stops at the first none. The values stand in the first places of out, and `count` is their number; places beyond stay. A
+ * run of no calls changes nothing and is still checked. A refusal writes nothing. */
+
+/* As many loftsplice_scan_next as out has places; or refused 100, 1, 2, 3, 6. O(R + N). */
+loftsplice_ran loftsplice_scan_next_run(loftsplice_scan scan, const int64_t *starts, size_t starts_len, const uint64_t *ends, size_t ends_len,
+    const int16_t *steps, size_t steps_len, int64_t *out, size_t out_len);
+
+/* A loftsplice_scan_seek of each target in turn, in any order; or refused 100, 1, 2, 3, 6, 7, 10: the last where out has fewer places than there are
+ * values, so as many places as targets are always enough. O(R + T). */
+loftsplice_ran loftsplice_scan_seek_run(loftsplice_scan scan, const int64_t *starts, size_t starts_len, const uint64_t *ends, size_t ends_len,
+    const int16_t *steps, size_t steps_len, const int64_t *targets, size_t targets_len, int64_t *out, size_t out_len);
 
 /* ---- the interval filter. Bounds are two lists: values, or for variable bounds the numbers of inputs (from 0), and a kind for each. Inputs are
  * two lists: values, and for each 1 if it has a value, 0 if none. */

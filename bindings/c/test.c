@@ -95,8 +95,33 @@ static void same_filter_at(int line, loftsplice_filter got, loftsplice_filter wa
 }
 #define FILTER(got, wanted) same_filter_at(__LINE__, got, wanted)
 
-/* Each call on a scan that takes the column, all with the same refusal, and the scan as it went in. */
+/* A run of calls into an output of 12 places, of which it is handed some; each holds -77 before. */
+enum { places = 12 };
+static int64_t *unwritten(int64_t *out) {
+    for (size_t i = 0; i < places; i++) out[i] = -77;
+    return out;
+}
+static loftsplice_ran nexts_of(loftsplice_scan s, column c, int64_t *out, size_t out_len) {
+    return loftsplice_scan_next_run(s, LISTS(c), unwritten(out), out_len);
+}
+static loftsplice_ran seeks_of(loftsplice_scan s, column c, const int64_t *targets, size_t targets_len, int64_t *out, size_t out_len) {
+    return loftsplice_scan_seek_run(s, LISTS(c), targets, targets_len, unwritten(out), out_len);
+}
+static void same_run_at(int line, loftsplice_ran got, const int64_t *out, uint32_t refusal, loftsplice_scan scan, const int64_t *values, size_t count) {
+    same_at("ran.refusal", line, got.refusal, refusal);
+    same_at("ran.count", line, (int64_t)got.count, (int64_t)count);
+    same_scan_at(line, got.scan, scan);
+    for (size_t i = 0; i < places; i++) same_at("out", line, out[i], i < count ? values[i] : -77);
+}
+
+/* Each call on a scan that takes the column, all with the same refusal, and the scan as it went in; a run of no calls too. */
 static void scan_refused_at(int line, column c, loftsplice_scan s, uint32_t refusal) {
+    static const int64_t targets[] = {7, 8};
+    int64_t out[places];
+    for (size_t calls = 0; calls < 3; calls++) {
+        same_run_at(line, nexts_of(s, c, out, calls), out, refusal, s, NULL, 0);
+        same_run_at(line, seeks_of(s, c, targets, calls, out, calls), out, refusal, s, NULL, 0);
+    }
     loftsplice_moved moved[] = {
         loftsplice_scan_next(s, LISTS(c)), loftsplice_scan_seek(s, LISTS(c), 7), loftsplice_scan_narrow(s, LISTS(c), 0, 1),
         loftsplice_scan_reset(s, LISTS(c))};
@@ -389,6 +414,79 @@ static void carried(void) {
     NONE(loftsplice_filter_current(within_fresh));
     loftsplice_scan odd = {0, 9, 2, 20, LOFTSPLICE_AT, 2};
     SAME(loftsplice_filter_new(odd, LOFTSPLICE_INCLUSIVE_WINS, NULL, 0, NULL, 0, NULL, 0, NULL, 0).refusal, LOFTSPLICE_FORM);
+}
+
+/* A run of nexts against single calls, one after the other. */
+static void nexts_at(int line, column c, loftsplice_scan s, size_t calls) {
+    int64_t out[places], values[places];
+    loftsplice_ran ran = nexts_of(s, c, out, calls);
+    loftsplice_moved m = {s, {0, 1, 0}};
+    size_t count = 0;
+    for (size_t i = 0; i < calls && m.answer.found; i++) {
+        m = loftsplice_scan_next(m.scan, LISTS(c));
+        if (m.answer.found) values[count++] = m.answer.value;
+    }
+    same_run_at(line, ran, out, 0, m.scan, values, count);
+}
+
+/* A run of seeks likewise, with as many places as there are values; with fewer it is refused 10. */
+static void seeks_at(int line, column c, loftsplice_scan s, const int64_t *targets, size_t calls) {
+    int64_t out[places], values[places];
+    loftsplice_moved m = {s, {0, 1, 0}};
+    size_t count = 0;
+    for (size_t i = 0; i < calls && m.answer.found; i++) {
+        m = loftsplice_scan_seek(m.scan, LISTS(c), targets[i]);
+        if (m.answer.found) values[count++] = m.answer.value;
+    }
+    for (size_t more = 0; count + more <= places; more++)
+        same_run_at(line, seeks_of(s, c, targets, calls, out, count + more), out, 0, m.scan, values, count);
+    for (size_t less = 0; less < count; less++)
+        same_run_at(line, seeks_of(s, c, targets, calls, out, less), out, LOFTSPLICE_ROOM, s, NULL, 0);
+}
+
+static void runs(void) {
+    static const int64_t elements[] = {10, 15, 20, 25, 30, 31, 40, 140, 240}, falling[] = {10, 5, 6, 7, 8};
+    int64_t out[places];
+    loftsplice_scan s = fresh(C), at_2 = {0, 9, 2, 20, LOFTSPLICE_AT, 1}, at_8 = {0, 9, 8, 240, LOFTSPLICE_AT, 1}, ended = {0, 9, 0, 0, LOFTSPLICE_ENDED, 0};
+
+    /* all elements in one call: with as many places the scan is at the last, with one more it has ended */
+    same_run_at(__LINE__, nexts_of(s, C, out, 9), out, 0, at_8, elements, 9);
+    same_run_at(__LINE__, nexts_of(s, C, out, 10), out, 0, ended, elements, 9);
+    same_run_at(__LINE__, nexts_of(s, C, out, 3), out, 0, at_2, elements, 3);
+    same_run_at(__LINE__, nexts_of(at_2, C, out, 12), out, 0, ended, elements + 3, 6);
+    /* next asks for no order */
+    loftsplice_scan d_ended = {0, 5, 0, 0, LOFTSPLICE_ENDED, 0};
+    same_run_at(__LINE__, nexts_of(fresh(D), D, out, 12), out, 0, d_ended, falling, 5);
+
+    /* the logs 9, 10, 11, 26 and 241: 10 alone is carried, 241 ends the scan; targets that fall stay */
+    static const int64_t logs[] = {9, 10, 11, 26, 241, 3}, found[] = {10, 10, 15, 30}, down[] = {26, 12, INT64_MIN, 31, 30}, stays[] = {30, 30, 30, 31, 31};
+    loftsplice_scan at_4 = {0, 9, 4, 30, LOFTSPLICE_AT, 1}, at_5 = {0, 9, 5, 31, LOFTSPLICE_AT, 1};
+    same_run_at(__LINE__, seeks_of(s, C, logs, 4, out, 4), out, 0, at_4, found, 4);
+    same_run_at(__LINE__, seeks_of(s, C, logs, 6, out, 4), out, 0, ended, found, 4);
+    same_run_at(__LINE__, seeks_of(s, C, logs, 6, out, 3), out, LOFTSPLICE_ROOM, s, NULL, 0);
+    same_run_at(__LINE__, seeks_of(s, C, down, 5, out, 12), out, 0, at_5, stays, 5);
+    same_run_at(__LINE__, seeks_of(s, C, logs + 4, 1, out, 0), out, 0, ended, NULL, 0);
+
+    /* a run of no calls changes nothing: what is not read comes back as 0, as from every call */
+    loftsplice_scan unread = {0, 9, 77, 66, LOFTSPLICE_ENDED, 0};
+    same_run_at(__LINE__, nexts_of(at_2, C, out, 0), out, 0, at_2, NULL, 0);
+    same_run_at(__LINE__, seeks_of(at_2, C, NULL, 0, out, 12), out, 0, at_2, NULL, 0);
+    same_run_at(__LINE__, nexts_of(unread, C, out, 0), out, 0, ended, NULL, 0);
+
+    /* 7: seeks alone, also where there is no target; 6, 3, 2, 1 before it, and 10 after */
+    same_run_at(__LINE__, seeks_of(fresh(D), D, NULL, 0, out, 0), out, LOFTSPLICE_ORDER, fresh(D), NULL, 0);
+    same_run_at(__LINE__, seeks_of(fresh(D), D, logs, 1, out, 0), out, LOFTSPLICE_ORDER, fresh(D), NULL, 0);
+
+    /* against single calls, from every index, in two windows, in every number of calls */
+    for (uint64_t end = 7; end <= 9; end += 2)
+        for (uint64_t at = 0; at <= end + 1; at++)
+            for (size_t calls = 0; calls <= places; calls++) {
+                loftsplice_scan from = {0, end, 0, 0, at == end ? LOFTSPLICE_FRESH : LOFTSPLICE_ENDED, 0};
+                if (at < end) from = (loftsplice_scan){0, end, at, elements[at], LOFTSPLICE_AT, 1};
+                nexts_at(__LINE__, C, from, calls);
+                if (calls <= 6) seeks_at(__LINE__, C, from, logs, calls);
+                if (calls <= 5) seeks_at(__LINE__, C, from, down, calls);
+            }
 }
 
 static void filters(void) {
@@ -774,6 +872,7 @@ int main(void) {
     columns();
     scans();
     carried();
+    runs();
     filters();
     listings();
     cut_windows();
