@@ -1,5 +1,7 @@
 use crate::{raw, Refusal, Runs, Scan};
 
+mod carried;
+
 /// A column that is checked: run starts, run ends (counted from the column's beginning) and steps, all borrowed. [`ColumnBuf`](crate::ColumnBuf) owns
 /// them. The default is the empty column.
 ///

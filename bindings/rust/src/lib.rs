@@ -58,4 +58,4 @@ pub use listing::{list, list_in_mode};
 pub use record::{read_record, write_record, Record};
 pub use refusal::{NoRefusal, Refusal};
 pub use run::{Run, Runs};
-pub use scan::{Scan, ScanState};
+pub use scan::{Scan, ScanState, SeekEach};

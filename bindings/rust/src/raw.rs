@@ -15,7 +15,7 @@
 pub use crate::sys::{
     check, diff_step, filter_current, filter_new, filter_next, filter_reset, filter_seek, get,
     is_empty, len, list, place, read_record, scan_current, scan_narrow, scan_new, scan_next,
-    scan_pos, scan_reset, scan_seek, write_record,
+    scan_next_run, scan_pos, scan_reset, scan_seek, scan_seek_run, write_record,
 };
 
 /// Runs that a column has at most; more are refused 1.
@@ -211,6 +211,18 @@ pub struct Moved {
     pub scan: Scan,
     /// The answer.
     pub answer: Answer,
+}
+
+/// The scan as a run of calls leaves it, and the number of values that they gave. A refusal: the scan as it went in, every number of it.
+#[repr(C)]
+#[derive(Clone, Copy, Debug, PartialEq, Eq, Hash)]
+pub struct Ran {
+    /// The scan.
+    pub scan: Scan,
+    /// The refusal's number, or 0.
+    pub refusal: u32,
+    /// The number of values.
+    pub count: u64,
 }
 
 /// A new filter; if refused, one in state [`NO_STATE`].

@@ -3,6 +3,13 @@ use core::ops::{Range, RangeBounds};
 
 use crate::{raw, window, Column, Refusal};
 
+mod ahead;
+mod running;
+mod seek_each;
+
+use ahead::Ahead;
+pub use seek_each::SeekEach;
+
 /// The state of a scan.
 ///
 /// ```
@@ -25,7 +32,8 @@ pub enum ScanState {
     Ended,
 }
 
-/// A scan over a window of a column. As an iterator it gives the elements from its place on, and knows how many are left.
+/// A scan over a window of a column. As an iterator it gives the elements from its place on, and knows how many are left. It fetches many of them in one
+/// call, into a buffer of its own, and stands at the one that it gave last: what is asked of it between two elements goes on from there.
 ///
 /// ```
 /// use loftsplice::Column;
@@ -42,17 +50,30 @@ pub enum ScanState {
 #[derive(Clone, Debug, PartialEq, Eq, Hash)]
 pub struct Scan<'a> {
     column: Column<'a>,
-    scan: raw::Scan,
+    /// Where the reader stands.
+    stands: raw::Scan,
+    /// Elements behind it.
+    ahead: Ahead,
 }
 
 impl<'a> Scan<'a> {
     /// A scan that the library gave, of the same column: so it carries the element that it is at, and no call on it is refused 1, 2, 3, 6 or 100.
     pub(crate) fn over(column: Column<'a>, scan: raw::Scan) -> Scan<'a> {
-        Scan { column, scan }
+        Scan {
+            column,
+            stands: scan,
+            ahead: Ahead::default(),
+        }
+    }
+
+    /// To where a call of the library left it.
+    pub(crate) fn goes_to(&mut self, scan: raw::Scan) {
+        self.stands = scan;
+        self.ahead.forget();
     }
 
     fn moved(&mut self, moved: raw::Moved) -> Result<Option<i64>, Refusal> {
-        self.scan = moved.scan;
+        self.goes_to(moved.scan);
         Refusal::or(
             moved.answer.refusal,
             (moved.answer.found == 1).then_some(moved.answer.value),
@@ -80,7 +101,7 @@ impl<'a> Scan<'a> {
     /// ```
     #[must_use]
     pub const fn raw(&self) -> raw::Scan {
-        self.scan
+        self.stands
     }
 
     /// The window: from its first index up to but not including its end.
@@ -91,7 +112,7 @@ impl<'a> Scan<'a> {
     /// ```
     #[must_use]
     pub const fn window(&self) -> Range<u64> {
-        self.scan.start..self.scan.end
+        self.stands.start..self.stands.end
     }
 
     /// The state. It makes no call.
@@ -104,9 +125,9 @@ impl<'a> Scan<'a> {
     /// ```
     #[must_use]
     pub const fn state(&self) -> ScanState {
-        match self.scan.state {
+        match self.stands.state {
             raw::FRESH => ScanState::Fresh,
-            raw::AT => ScanState::At(self.scan.index),
+            raw::AT => ScanState::At(self.stands.index),
             _ => ScanState::Ended,
         }
     }
@@ -141,7 +162,7 @@ impl<'a> Scan<'a> {
     pub fn seek(&mut self, target: i64) -> Result<Option<i64>, Refusal> {
         let column = self.column;
         self.moved(raw::scan_seek(
-            self.scan,
+            self.stands,
             column.starts(),
             column.ends(),
             column.steps(),
@@ -173,7 +194,7 @@ impl<'a> Scan<'a> {
         let column = self.column;
         let (start, end) = window::of(&window, column.len());
         self.moved(raw::scan_narrow(
-            self.scan,
+            self.stands,
             column.starts(),
             column.ends(),
             column.steps(),
@@ -194,7 +215,9 @@ impl<'a> Scan<'a> {
     /// ```
     pub fn reset(&mut self) {
         let column = self.column;
-        self.scan = raw::scan_reset(self.scan, column.starts(), column.ends(), column.steps()).scan;
+        self.goes_to(
+            raw::scan_reset(self.stands, column.starts(), column.ends(), column.steps()).scan,
+        );
     }
 
     /// The element that the scan is at, or none. The scan carries it: the column is not looked at.
@@ -208,7 +231,7 @@ impl<'a> Scan<'a> {
     /// ```
     #[must_use]
     pub fn current(&self) -> Option<i64> {
-        let answer = raw::scan_current(self.scan);
+        let answer = raw::scan_current(self.stands);
         (answer.found == 1).then_some(answer.value)
     }
 
@@ -228,24 +251,33 @@ impl<'a> Scan<'a> {
         }
     }
 
+    /// The index that `next` goes to, if it lies in the window.
+    const fn upcoming(&self) -> u64 {
+        match self.state() {
+            ScanState::Fresh => self.stands.start,
+            ScanState::At(index) => index + 1,
+            ScanState::Ended => self.stands.end,
+        }
+    }
+
     /// The elements that are left in the window: those behind the index, or all of them when fresh.
     const fn left(&self) -> u64 {
-        let from = match self.state() {
-            ScanState::Fresh => self.scan.start,
-            ScanState::At(index) => index + 1,
-            ScanState::Ended => self.scan.end,
-        };
-        self.scan.end.saturating_sub(from)
+        self.stands.end.saturating_sub(self.upcoming())
     }
 }
 
 impl Iterator for Scan<'_> {
     type Item = i64;
 
+    #[inline]
     fn next(&mut self) -> Option<i64> {
-        let column = self.column;
-        let moved = raw::scan_next(self.scan, column.starts(), column.ends(), column.steps());
-        self.moved(moved).ok().flatten()
+        let Some(value) = self.ahead.take() else {
+            return self.fetch();
+        };
+        // from one element that was fetched to the next: at an index before and after
+        self.stands.index += 1;
+        self.stands.value = value;
+        Some(value)
     }
 
     fn size_hint(&self) -> (usize, Option<usize>) {

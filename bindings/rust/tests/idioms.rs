@@ -5,10 +5,11 @@ use std::fmt::Debug;
 use std::hash::Hash;
 use std::iter::FusedIterator;
 use std::ops;
+use std::vec::IntoIter;
 
 use loftsplice::{
     raw, Bound, Column, ColumnBuf, Filter, FilterState, Mode, NoRefusal, Place, Record, Refusal,
-    Run, Runs, Scan, ScanState, Unbounded, Values, Variables,
+    Run, Runs, Scan, ScanState, SeekEach, Unbounded, Values, Variables,
 };
 
 /// No runs; one element; 10 15 20 25, 30, 31, 40 140 240; 10 5, 6 7 8; the edges of i64.
@@ -187,6 +188,7 @@ fn traits() {
     fn default<T: Default>() {}
     fn fused<T: FusedIterator + Clone + Debug>() {}
     fn exact<T: ExactSizeIterator>() {}
+    fn lent<T: FusedIterator + ExactSizeIterator + Debug + Send + Sync>() {}
     fn error<T: Error + Copy + Send + Sync + 'static>() {}
     value::<(Column<'_>, ColumnBuf, Place, Run, Runs<'_>, Record)>();
     value::<(Scan<'_>, ScanState, Filter<'_>, FilterState, Values<'_>)>();
@@ -203,6 +205,7 @@ fn traits() {
     value::<(
         raw::NewScan,
         raw::Moved,
+        raw::Ran,
         raw::NewFilter,
         raw::Sifted,
         raw::Reset,
@@ -220,6 +223,7 @@ fn traits() {
     fused::<Scan<'_>>();
     fused::<Runs<'_>>();
     fused::<Values<'_>>();
+    lent::<SeekEach<'_, '_, IntoIter<i64>>>();
     exact::<Scan<'_>>();
     exact::<Runs<'_>>();
     error::<Refusal>();

@@ -4,6 +4,22 @@ use loftsplice::raw;
 /// 10 15 20 25, 30, 31, 40 140 240
 const C: (&[i64], &[u64], &[i16]) = (&[10, 30, 31, 40], &[4, 5, 6, 9], &[5, 0, -3, 100]);
 
+/// Both runs of calls, and a run of none, with the same refusal; the scan and the output are as they went in.
+fn runs_refused(scan: raw::Scan, ends: &[u64], refusal: u32) {
+    let (starts, _, steps) = C;
+    let mut out = [-77; 2];
+    let nexts = raw::scan_next_run(scan, starts, ends, steps, &mut out);
+    let seeks = raw::scan_seek_run(scan, starts, ends, steps, &[5, 6], &mut out);
+    let none = raw::scan_seek_run(scan, starts, ends, steps, &[], &mut []);
+    let count = 0;
+    let back = raw::Ran {
+        scan,
+        refusal,
+        count,
+    };
+    assert_eq!(([nexts, seeks, none], out), ([back; 3], [-77; 2]));
+}
+
 #[test]
 fn a_value_that_does_not_belong_there_is_refused_and_comes_back() {
     let (starts, ends, steps) = C;
@@ -44,6 +60,8 @@ fn a_value_that_does_not_belong_there_is_refused_and_comes_back() {
         assert_eq!(raw::scan_narrow(scan, starts, ends, steps, 0, 1), back);
         assert_eq!(raw::scan_reset(scan, starts, ends, steps), back);
         assert_eq!(raw::scan_pos(scan, starts, ends, steps).refusal, 6);
+        runs_refused(scan, ends, 6);
+        runs_refused(scan, &[], 1);
         assert_eq!(raw::scan_next(scan, starts, &[], steps).answer.refusal, 1);
         let said = current.map_or(answer, |value| raw::Answer {
             refusal: 0,
@@ -109,6 +127,7 @@ fn bad_numbers_are_refused_and_come_back() {
             raw::scan_seek(scan, starts, &[], steps, 5),
             raw::Moved { scan, answer }
         );
+        runs_refused(scan, &[], raw::FORM);
         assert_eq!(raw::scan_current(scan), answer);
         let made = raw::filter_new(scan, raw::INCLUSIVE_WINS, &[], &[], &[], &[]);
         assert_eq!(
