@@ -1,34 +1,24 @@
 // check FILE: a column that passed the check, described.
+use asking::order::order;
 use loftsplice::rle::Got;
 use loftsplice::rle::Length;
 use loftsplice::rle::get;
 use loftsplice::rle::len;
-use loftsplice::scan::Made;
-use loftsplice::scan::Scan;
 use meaning::Answer;
+use telling::forms::said;
 use telling::printing;
 use telling::printing::signed;
-use telling::printing::text;
 use telling::printing::unsigned;
+use words::places::LINES;
 
-// Whether each element is above the one before: a seek over a window that doesn't rise is refused.
-fn rises(starts: &[i64], ends: &[u64], steps: &[i16]) -> bool {
-    match Scan::new(starts, ends, steps) {
-        Made::Refused(_) => false,
-        Made::Ready(scan) => {
-            let moved = scan.seek(starts, ends, steps, -9223372036854775808);
-            let answer = moved.answer;
-            match answer {
-                Answer::Refused(_) => false,
-                _ => true,
-            }
-        }
-    }
-}
-
-fn element(got: Got) -> bool {
+fn element(got: Got, form: usize) -> bool {
     match got {
-        Got::Value(value) => signed(value, 10),
+        Got::Value(value) => {
+            if form == LINES {
+                return signed(value, 10);
+            }
+            signed(value, 44)
+        }
         Got::Refused(why) => {
             printing::refused(why);
             false
@@ -36,39 +26,58 @@ fn element(got: Got) -> bool {
     }
 }
 
-fn sizes(runs: u64, length: u64) -> bool {
-    text(b"sound\nruns ") && unsigned(runs) && text(b"\nlength ") && unsigned(length) && text(b"\n")
-}
-
-fn edge(which: &[u8], got: Got) -> bool {
-    text(which) && element(got)
+fn sizes(form: usize, runs: u64, length: u64) -> bool {
+    said(
+        form,
+        b"sound\nruns ",
+        b"sound,runs,length,first,last,rising\nyes,",
+        b"{\"sound\":true,\"runs\":",
+    )
+        && unsigned(runs)
+        && said(form, b"\nlength ", b",", b",\"length\":")
+        && unsigned(length)
+        && said(form, b"\n", b",", b",")
 }
 
 // The first and the last element, where there is one.
-fn edges(starts: &[i64], ends: &[u64], steps: &[i16], length: u64) -> bool {
+fn edges(starts: &[i64], ends: &[u64], steps: &[i16], length: u64, form: usize) -> bool {
     if length == 0 {
-        return text(b"first none\nlast none\n");
+        return said(
+            form,
+            b"first none\nlast none\n",
+            b",,",
+            b"\"first\":null,\"last\":null,",
+        );
     }
-    edge(b"first ", get(starts, ends, steps, 0))
-        && edge(b"last ", get(starts, ends, steps, length - 1))
+    said(form, b"first ", b"", b"\"first\":")
+        && element(get(starts, ends, steps, 0), form)
+        && said(form, b"last ", b"", b"\"last\":")
+        && element(get(starts, ends, steps, length - 1), form)
 }
 
-fn order(rising: bool) -> bool {
-    if rising {
-        return text(b"rising yes\n");
+// Whether the elements rise; and, if they have to, a refusal where not.
+fn risen(order: Answer, form: usize, strict: bool) {
+    match order {
+        Answer::Refused(why) => {
+            if said(form, b"rising no\n", b"no\n", b"\"rising\":false}\n") && strict {
+                printing::refused(why);
+            }
+        }
+        _ => {
+            said(form, b"rising yes\n", b"yes\n", b"\"rising\":true}\n");
+        }
     }
-    text(b"rising no\n")
 }
 
-pub fn report(starts: &[i64], ends: &[u64], steps: &[i16]) {
+pub fn report(starts: &[i64], ends: &[u64], steps: &[i16], form: usize, strict: bool) {
     match len(starts, ends, steps) {
         Length::Refused(why) => printing::refused(why),
         Length::Is(length) => {
-            if !sizes(ends.len() as u64, length) {
+            if !sizes(form, ends.len() as u64, length) {
                 return;
             }
-            if edges(starts, ends, steps, length) {
-                order(rises(starts, ends, steps));
+            if edges(starts, ends, steps, length, form) {
+                risen(order(starts, ends, steps), form, strict);
             }
         }
     }

@@ -11,8 +11,49 @@ use loftsplice::scan::Made;
 use loftsplice::scan::Position;
 use loftsplice::scan::Scan;
 use meaning::Answer;
+use telling::forms::closed;
+use telling::forms::lead;
+use telling::forms::next;
+use telling::forms::said;
 use telling::printing;
-use words::arguments::Request;
+use words::arguments::signed;
+use words::arguments::unsigned;
+use words::numbers::Signed;
+use words::numbers::Unsigned;
+use words::places::ABOVE;
+use words::places::BELOW;
+use words::places::END;
+use words::places::FORMAT;
+use words::places::FROM;
+use words::places::START;
+use words::places::TO;
+
+// The bound whose value argument i has.
+fn bound(boundary: BoundaryType, i: usize) -> Limit {
+    match signed(i) {
+        Signed::Not => Limit::Free,
+        Signed::Is(value) => Limit::To(Bound { boundary, value }),
+    }
+}
+
+// The bound that is given, by the places of its inclusive and its exclusive word.
+fn limit(inclusive: usize, exclusive: usize) -> Limit {
+    if inclusive != 0 {
+        return bound(BoundaryType::Inclusive, inclusive);
+    }
+    if exclusive != 0 {
+        return bound(BoundaryType::Exclusive, exclusive);
+    }
+    Limit::Free
+}
+
+// The index that argument i is.
+fn index(i: usize) -> u64 {
+    match unsigned(i) {
+        Unsigned::Not => 0,
+        Unsigned::Is(n) => n,
+    }
+}
 
 // A limit as a list of bounds.
 fn listed(limit: Limit) -> Bounds {
@@ -47,8 +88,16 @@ fn piece_end(at: u64, end: u64) -> u64
     if end - at < 2048 { end } else { at + 2048 }
 }
 
-// Lists and prints a piece. Answers whether to go on: not after a refusal or a write that failed, nor where no element met the bounds. (From
-// the second piece on every element is above the lower bound, so those that follow are beyond the upper one.)
+// What became of a piece.
+enum Part {
+    // a refusal, or a write that failed
+    Stopped,
+    // no element met the bounds: from the second piece on every element is above the lower bound, so those that follow are beyond the upper one
+    Empty,
+    Printed,
+}
+
+// Lists and prints a piece, with the byte that stands before its first element.
 fn piece(
     starts: &[i64],
     ends: &[u64],
@@ -57,7 +106,8 @@ fn piece(
     stop: u64,
     lower: Bounds,
     upper: Bounds,
-) -> bool {
+    lead: u8,
+) -> Part {
     let mut out = [0i64; 2048];
     let mut counts = [0u64; 1];
     // There is one upper bound at most, so the modes list alike.
@@ -76,18 +126,21 @@ fn piece(
     ) {
         Listed::Refused(why) => {
             printing::refused(why);
-            false
+            Part::Stopped
         }
         Listed::Sum(sum) => {
             if sum == 0 {
-                return false;
+                return Part::Empty;
             }
-            printing::values(&out, sum)
+            if printing::values(&out, sum, lead) {
+                return Part::Printed;
+            }
+            Part::Stopped
         }
     }
 }
 
-// Piece by piece, from an index on.
+// Part by piece, from an index on.
 fn pieces(
     starts: &[i64],
     ends: &[u64],
@@ -96,20 +149,34 @@ fn pieces(
     end: u64,
     lower: Bounds,
     upper: Bounds,
+    form: usize,
 ) {
     let mut at = first;
+    let mut before = lead(form);
     while at < end {
         let stop = piece_end(at, end);
-        if !piece(starts, ends, steps, at, stop, lower, upper) {
-            return;
+        match piece(starts, ends, steps, at, stop, lower, upper, before) {
+            Part::Stopped => return,
+            Part::Empty => break,
+            Part::Printed => {}
         }
+        before = next(before);
         at = stop;
     }
+    closed(before);
 }
 
 // From the first element of the scan's window that is not below the lower bound's value. The seek also refuses a window that doesn't rise,
 // the whole of it, before anything is printed.
-fn from_scan(starts: &[i64], ends: &[u64], steps: &[i16], scan: Scan, lower: Limit, upper: Limit) {
+fn from_scan(
+    starts: &[i64],
+    ends: &[u64],
+    steps: &[i16],
+    scan: Scan,
+    lower: Limit,
+    upper: Limit,
+    form: usize,
+) {
     let end = scan.end;
     let moved = scan.seek(starts, ends, steps, target(lower));
     let answer = moved.answer;
@@ -118,12 +185,17 @@ fn from_scan(starts: &[i64], ends: &[u64], steps: &[i16], scan: Scan, lower: Lim
         printing::refused(why);
         return;
     }
+    if !said(form, b"", b"element\n", b"") {
+        return;
+    }
     match found.pos(starts, ends, steps) {
         Position::Refused(why) => printing::refused(why),
-        Position::None => {}
+        Position::None => {
+            closed(lead(form));
+        }
         Position::Index(first) => {
             let low = listed(lower);
-            pieces(starts, ends, steps, first, end, low, listed(upper));
+            pieces(starts, ends, steps, first, end, low, listed(upper), form);
         }
     }
 }
@@ -139,23 +211,25 @@ fn narrowed(starts: &[i64], ends: &[u64], steps: &[i16], scan: Scan, start: u64,
     }
 }
 
-fn window(starts: &[i64], ends: &[u64], steps: &[i16], request: Request) -> Made {
+// The whole column, or the window that two arguments give.
+fn window(starts: &[i64], ends: &[u64], steps: &[i16], start: usize, end: usize) -> Made {
     match Scan::new(starts, ends, steps) {
         Made::Refused(why) => Made::Refused(why),
         Made::Ready(scan) => {
-            if request.whole {
+            if start == 0 {
                 return Made::Ready(scan);
             }
-            narrowed(starts, ends, steps, scan, request.start, request.end)
+            narrowed(starts, ends, steps, scan, index(start), index(end))
         }
     }
 }
 
-pub fn list_window(starts: &[i64], ends: &[u64], steps: &[i16], request: Request) {
-    let lower = request.lower;
-    let upper = request.upper;
-    match window(starts, ends, steps, request) {
+pub fn list_window(starts: &[i64], ends: &[u64], steps: &[i16], places: &[usize; 16]) {
+    let form = places[FORMAT];
+    let lower = limit(places[FROM], places[ABOVE]);
+    let upper = limit(places[TO], places[BELOW]);
+    match window(starts, ends, steps, places[START], places[END]) {
         Made::Refused(why) => printing::refused(why),
-        Made::Ready(scan) => from_scan(starts, ends, steps, scan, lower, upper),
+        Made::Ready(scan) => from_scan(starts, ends, steps, scan, lower, upper, form),
     }
 }

@@ -1,19 +1,21 @@
-// The command loftsplice: checks, lists and searches a column that is stored as a record; telling::help says how it is called and what it writes.
+// The command loftsplice: checks, lists and searches a column that is stored as a record; docs/COMMAND.md says how it is called and what it writes.
 // A Rattle program has no exit status. What went wrong is the last line on standard error, of which the wrapper ./loftsplice makes one.
-use telling::help;
+use telling::wrong;
 use words::arguments;
-use words::arguments::Command;
+use words::options::Command;
+use words::places::WANTED;
+use words::places::WRONG;
 
 mod checking;
-mod finding;
 mod listing;
 mod reading;
 
 fn main() {
-    let command = arguments::given();
-    match command {
-        Command::Help => help::all(),
-        Command::Wrong => help::wrong(),
-        _ => reading::from_file(command),
+    let mut places = [0usize; 16];
+    let command = arguments::given(&mut places);
+    if let Command::Wrong = command {
+        wrong::usage(places[WRONG], places[WANTED]);
+        return;
     }
+    reading::from_file(command, &places);
 }

@@ -1,56 +1,38 @@
-// The record, read whole: it has at most 57,350 bytes, and what follows it is not read.
+// The record, read whole: it has at most 57,350 bytes, and a file holds one record and nothing more.
 ghost use Prim.Native.Nat.{_≤_};
+ghost use mathlib.Core.Path.{_≡_};
 use crate::checking;
-use crate::finding;
 use crate::listing;
+use asking::finding;
+use asking::opening;
+use libc::STDERR_FILENO;
 use record::ReadRecord;
 use record::read;
-use telling::help;
 use telling::printing;
-use words::arguments::Command;
+use words::options::Command;
+use words::places::FILE;
+use words::places::FORMAT;
+use words::places::RISING;
 
-// The file that argument 2 names, open for reading, or -1 after a message.
-fn open() -> i32 {
-    let mut path = io::buffer();
-    let n = os::arg(2, &mut path);
-    if os::errno() != 0 {
-        os::fail(b"loftsplice: the file's name");
-        return -1;
-    }
-    let fd = os::open_read(&path[..n]);
+// The answer of a command on the column of a file. A read that ends early may have failed, as that of a folder does, and one that fills the buffer may
+// have left bytes behind: one more tells.
+pub fn from_file(command: Command, places: &[usize; 16]) {
+    let fd = opening::open(places[FILE], false);
     if fd < 0 {
-        printing::message(b"loftsplice: ");
-        os::fail(&path[..n]);
-    }
-    fd
-}
-
-// Whether reading on fails, after a message: a read that ends early may have failed, as that of a folder does.
-fn fails(fd: i32) -> bool {
-    let mut next = [0u8; 1];
-    if libc::read(fd, &mut next) < 0 {
-        os::fail(b"loftsplice: reading the file");
-        return true;
-    }
-    false
-}
-
-// The answer of a command on the column of a file.
-pub fn from_file(command: Command) {
-    let fd = open();
-    if fd < 0 {
-        printing::message(b"no file\n");
         return;
     }
     let mut bytes = [0u8; 57350];
     let n = io::read_full(fd, &mut bytes);
-    let failed = fails(fd);
-    libc::close(fd);
-    if failed {
-        printing::message(b"no file\n");
+    let mut next = [0u8; 1];
+    let more = opening::read_some(fd, &mut next);
+    if more < 0 {
         return;
     }
-    from_bytes(&bytes[..n], command);
+    if more == 0 {
+        from_bytes(command, &bytes[..n], n, fd, places);
+    } else {
+        from_bytes(command, &bytes[..n], n + 1, fd, places);
+    }
 }
 
 // A count, held to the places that there are: no proof here has to read the promise of `read`, by which it is no greater.
@@ -60,25 +42,77 @@ fn at_most(count: usize, places: usize) -> usize
     if count < places { count } else { places }
 }
 
-fn from_bytes(bytes: &[u8], command: Command) {
+// From the bytes of a file, or those of its front, and how many it has, or one more than these.
+fn from_bytes(command: Command, bytes: &[u8], there: usize, fd: i32, places: &[usize; 16]) {
     let mut starts = [0i64; 4096];
     let mut ends = [0u64; 4096];
     let mut steps = [0i16; 4096];
     match read(bytes, &mut starts, &mut ends, &mut steps) {
         ReadRecord::Refused(why) => printing::refused(why),
-        ReadRecord::Runs(count, _) => {
+        ReadRecord::Runs(count, used) => {
+            if used != there {
+                over(used, there, fd);
+                return;
+            }
             let n = at_most(count, 4096);
-            from_column(&starts[..n], &ends[..n], &steps[..n], command);
+            from_column(
+                command,
+                used,
+                there,
+                &starts[..n],
+                &ends[..n],
+                &steps[..n],
+                places,
+            );
         }
     }
 }
 
-fn from_column(starts: &[i64], ends: &[u64], steps: &[i16], command: Command) {
+// One turn of `size`: adds the bytes of a chunk. Answers whether there were any.
+fn counted(fd: i32, sum: &mut u64) -> bool {
+    let mut chunk = io::large_buffer();
+    let n = io::read_full(fd, &mut chunk);
+    *sum = std::num::wrapping_add_u64(*sum, n as u64);
+    0 < n
+}
+
+// The bytes of a file up to its end, with those that were read. A proved loop has to end, and nothing says that the file does: it counts its turns.
+fn size(fd: i32, before: u64) -> u64 {
+    let mut sum = before;
+    let mut turns = u64::MAX;
+    while turns > 0 && counted(fd, &mut sum) {
+        turns -= 1;
+    }
+    sum
+}
+
+// The last lines where bytes follow the record: how many it has, and how many the file.
+fn over(used: usize, there: usize, fd: i32) {
+    printing::message(b"loftsplice: a file holds one record, and bytes follow it here\n");
+    io::print_decimal(STDERR_FILENO, used as u64);
+    printing::message(b" of ");
+    io::print_decimal(STDERR_FILENO, size(fd, there as u64));
+    printing::message(b" bytes used\n");
+}
+
+// Answers, if the record has all bytes of the file: else the file is not what it was taken for, and numbers of what follows would be taken for filled.
+fn from_column(
+    command: Command,
+    used: usize,
+    there: usize,
+    starts: &[i64],
+    ends: &[u64],
+    steps: &[i16],
+    places: &[usize; 16],
+)
+    requires { ⌜ used ≡ there ⌝ }
+{
     match command {
-        Command::Check => checking::report(starts, ends, steps),
-        Command::List(request) => listing::list_window(starts, ends, steps, request),
-        Command::Find => finding::find_all(starts, ends, steps),
-        Command::Help => help::all(),
-        Command::Wrong => help::wrong(),
+        Command::Check => {
+            checking::report(starts, ends, steps, places[FORMAT], places[RISING] != 0)
+        }
+        Command::List => listing::list_window(starts, ends, steps, places),
+        Command::Find => finding::find(starts, ends, steps, places),
+        Command::Wrong => {}
     }
 }

@@ -1,3 +1,5 @@
-// What the command writes: answers, messages and refusals, and its help.
-pub mod help;
+// What the command writes: answers in one of three formats, messages, refusals, and which word is wrong.
+pub mod forms;
 pub mod printing;
+pub mod rows;
+pub mod wrong;

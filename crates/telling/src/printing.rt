@@ -1,5 +1,6 @@
 // What is written: answers on standard output, by functions that say whether all was written; messages and refusals on standard error.
 ghost use Prim.Native.Nat.{_+_, _≤_};
+use crate::forms::next;
 use libc::STDERR_FILENO;
 use libc::STDOUT_FILENO;
 use loftsplice::refusal::number;
@@ -88,20 +89,52 @@ fn put_digits(digits: &[u8; 20], n: usize, after: u8, buf: &mut [u8; 65536], at:
     at + i + 1
 }
 
+// An unsigned number and one byte more.
+pub(crate) fn put_unsigned(n: u64, after: u8, buf: &mut [u8; 65536], at: usize) -> usize
+    requires { ⌜ at ≤ 65501 ⌝ }
+    ensures { λ r. ⌜ r ≤ at + 21 ⌝ }
+{
+    let mut digits = [0u8; 20];
+    let count = io::decimal(n, &mut digits);
+    put_digits(&digits, count, after, buf, at)
+}
+
 // A number, by its key (2^63 is 0), and one byte more, into the buffer from a place on. Answers the place after them.
-fn put(value: i64, after: u8, buf: &mut [u8; 65536], at: usize) -> usize
+pub(crate) fn put(value: i64, after: u8, buf: &mut [u8; 65536], at: usize) -> usize
     requires { ⌜ at ≤ 65500 ⌝ }
     ensures { λ r. ⌜ r ≤ at + 22 ⌝ }
 {
-    let mut digits = [0u8; 20];
     let key = keys::bias(value);
     if key < 9223372036854775808 {
         buf[at] = 45;
-        let n = io::decimal(9223372036854775808 - key, &mut digits);
-        return put_digits(&digits, n, after, buf, at + 1);
+        return put_unsigned(9223372036854775808 - key, after, buf, at + 1);
     }
-    let n = io::decimal(key - 9223372036854775808, &mut digits);
-    put_digits(&digits, n, after, buf, at)
+    put_unsigned(key - 9223372036854775808, after, buf, at)
+}
+
+// A byte into the buffer, 0: none. Answers the place after it.
+pub(crate) fn put_byte(byte: u8, buf: &mut [u8; 65536], at: usize) -> usize
+    requires { ⌜ at ≤ 65500 ⌝ }
+    ensures { λ r. ⌜ r ≤ at + 1 ⌝ }
+{
+    if byte == 0 {
+        return at;
+    }
+    buf[at] = byte;
+    at + 1
+}
+
+// Up to 32 bytes of text into the buffer, from a place on. Answers the place after them.
+pub(crate) fn put_text(s: &[u8], buf: &mut [u8; 65536], at: usize) -> usize
+    requires { ⌜ at ≤ 65500 ⌝ }
+    ensures { λ r. ⌜ r ≤ at + 32 ⌝ }
+{
+    let mut i = 0;
+    while i < 32 && i < s.len() {
+        buf[at + i] = s[i];
+        i += 1;
+    }
+    at + i
 }
 
 // The buffer up to a place, by one write.
@@ -112,6 +145,14 @@ fn flush(buf: &[u8; 65536], at: usize) -> bool
     text(&view[..at])
 }
 
+// The rows that a buffer holds up to a place.
+pub fn written(buf: &[u8; 65536], at: usize) -> bool {
+    if 65536 < at {
+        return false;
+    }
+    flush(buf, at)
+}
+
 // A number and one byte more.
 pub fn signed(value: i64, after: u8) -> bool {
     let mut buf = io::large_buffer();
@@ -119,13 +160,24 @@ pub fn signed(value: i64, after: u8) -> bool {
     flush(&buf, at)
 }
 
-// The first so many of the values, one a line.
-pub fn values(list: &[i64; 2048], count: u64) -> bool {
+// An item of a list: the byte before it, 0 where there is none, the number and a line end.
+fn put_item(lead: u8, value: i64, buf: &mut [u8; 65536], at: usize) -> usize
+    requires { ⌜ at ≤ 65400 ⌝ }
+    ensures { λ r. ⌜ r ≤ at + 23 ⌝ }
+{
+    let from = put_byte(lead, buf, at);
+    put(value, 10, buf, from)
+}
+
+// The first so many of the values, one a line, with the byte that stands before the first of them.
+pub fn values(list: &[i64; 2048], count: u64, lead: u8) -> bool {
     let mut buf = io::large_buffer();
     let mut at: usize = 0;
+    let mut before = lead;
     let mut i = 0;
     while i < 2048 && (i as u64) < count {
-        at = put(list[i], 10, &mut buf, at);
+        at = put_item(before, list[i], &mut buf, at);
+        before = next(before);
         i += 1;
     }
     flush(&buf, at)

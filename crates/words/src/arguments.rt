@@ -1,193 +1,274 @@
-// What the command is asked to do. Argument 1 is the word for it, argument 2 the file; what follows is read here, before the file is.
-ghost use Prim.Native.Nat.{_<_};
+// What the command is asked to do. Argument 1 is the word for it; those that follow are read here, before the file is.
+ghost use Prim.Native.Nat.{_≤_, _<_};
 use crate::numbers::Signed;
 use crate::numbers::Unsigned;
 use crate::numbers::read_signed;
 use crate::numbers::read_unsigned;
-use bounds::Bound;
-use bounds::BoundaryType;
-use bounds::Limit;
+use crate::options::Command;
+use crate::options::equal;
+use crate::options::fits;
+use crate::options::format_of;
+use crate::options::is_number;
+use crate::options::option_of;
+use crate::options::value_start;
+use crate::places::FILE;
+use crate::places::FORMAT;
+use crate::places::LINES;
+use crate::places::NUMBERS;
+use crate::places::OPERANDS;
+use crate::places::PLAIN;
+use crate::places::RISING;
+use crate::places::WANTED;
+use crate::places::WRONG;
+use crate::together::together;
 
-// A listing: the whole column or a window of it, and a bound on either side.
-pub struct Request {
-    pub whole: bool,
-    pub start: u64,
-    pub end: u64,
-    pub lower: Limit,
-    pub upper: Limit,
-}
-
-pub enum Command {
-    Help,
-    Check,
-    List(Request),
-    Find,
-    Wrong,
+fn signed_in(word: &[u8]) -> Signed {
+    let from = value_start(word);
+    read_signed(&word[from..])
 }
 
 // Argument i as a number; a missing one is none.
-fn unsigned(i: usize) -> Unsigned {
+pub fn signed(i: usize) -> Signed {
+    let mut buf = io::buffer();
+    let n = os::arg(i, &mut buf);
+    signed_in(&buf[..n])
+}
+
+pub fn unsigned(i: usize) -> Unsigned {
     let mut buf = io::buffer();
     let n = os::arg(i, &mut buf);
     read_unsigned(&buf[..n])
 }
 
-pub fn signed(i: usize) -> Signed {
+// Notes a word that is wrong, and whether a number was wanted. Answers that it is passed over.
+fn wrong(i: usize, wanted: usize, places: &mut [usize; 16]) -> usize {
+    places[WRONG] = i;
+    places[WANTED] = wanted;
+    1
+}
+
+// Takes a format. Answers how many arguments were taken.
+fn formatted(value: &[u8], i: usize, took: usize, places: &mut [usize; 16]) -> usize {
+    let format = format_of(value);
+    if format == LINES {
+        return wrong(i, 0, places);
+    }
+    places[FORMAT] = format;
+    took
+}
+
+// Takes an argument for the value of an option, if it is one. Answers how many arguments were taken.
+fn valued(option: usize, value: &[u8], i: usize, took: usize, places: &mut [usize; 16]) -> usize
+    requires { ⌜ option < 12 ⌝ }
+{
+    if option == FORMAT {
+        return formatted(value, i, took, places);
+    }
+    if fits(option, value) {
+        places[option] = i;
+        return took;
+    }
+    if option == NUMBERS {
+        return wrong(i, 0, places);
+    }
+    wrong(i, 1, places)
+}
+
+fn value_after(option: usize, i: usize, places: &mut [usize; 16]) -> usize
+    requires { ⌜ option < 12 ⌝ }
+{
     let mut buf = io::buffer();
     let n = os::arg(i, &mut buf);
-    read_signed(&buf[..n])
+    valued(option, &buf[..n], i, 2, places)
 }
 
-// The request with a lower bound; wrong where it has one.
-fn with_lower(request: Request, boundary: BoundaryType, value: i64) -> Command {
-    let lower = request.lower;
-    let upper = request.upper;
-    match lower {
-        Limit::To(_) => Command::Wrong,
-        Limit::Free => Command::List(Request {
-            whole: request.whole,
-            start: request.start,
-            end: request.end,
-            lower: Limit::To(Bound { boundary, value }),
-            upper,
-        }),
+// Takes an option: its value stands behind a '=' or in the next argument. None is given twice. Answers how many arguments it has.
+fn option(
+    command: Command,
+    word: &[u8],
+    i: usize,
+    after: usize,
+    places: &mut [usize; 16],
+) -> usize {
+    let end = equal(word);
+    let option = option_of(command, &word[..end]);
+    if option == 0 {
+        return wrong(i, 0, places);
     }
-}
-
-// The request with an upper bound; wrong where it has one.
-fn with_upper(request: Request, boundary: BoundaryType, value: i64) -> Command {
-    let lower = request.lower;
-    let upper = request.upper;
-    match upper {
-        Limit::To(_) => Command::Wrong,
-        Limit::Free => Command::List(Request {
-            whole: request.whole,
-            start: request.start,
-            end: request.end,
-            lower,
-            upper: Limit::To(Bound { boundary, value }),
-        }),
+    if places[option] != 0 {
+        return wrong(i, 0, places);
     }
-}
-
-fn bounded(request: Request, word: &[u8], value: i64) -> Command {
-    if check::same(word, b"--from") {
-        return with_lower(request, BoundaryType::Inclusive, value);
-    }
-    if check::same(word, b"--above") {
-        return with_lower(request, BoundaryType::Exclusive, value);
-    }
-    if check::same(word, b"--to") {
-        return with_upper(request, BoundaryType::Inclusive, value);
-    }
-    if check::same(word, b"--below") {
-        return with_upper(request, BoundaryType::Exclusive, value);
-    }
-    Command::Wrong
-}
-
-// The request with the bound that argument i and the one after it give.
-fn option(request: Request, i: usize, after: usize) -> Command {
-    let mut buf = io::buffer();
-    let n = os::arg(i, &mut buf);
-    match signed(after) {
-        Signed::Not => Command::Wrong,
-        Signed::Is(value) => bounded(request, &buf[..n], value),
-    }
-}
-
-// The request with the bounds that the arguments from one on give.
-fn options(request: Request, from: usize, count: usize) -> Command {
-    if count < from {
-        return Command::Wrong;
-    }
-    let mut asked = request;
-    let mut i = from;
-    while 2 <= count - i {
-        let Command::List(more) = option(asked, i, i + 1) else {
-            return Command::Wrong;
-        };
-        asked = more;
-        i += 2;
-    }
-    if i < count {
-        return Command::Wrong;
-    }
-    Command::List(asked)
-}
-
-// list FILE [START END] ..: a window where a number follows the file.
-fn list(count: usize) -> Command {
-    let lower = Limit::Free;
-    let upper = Limit::Free;
-    match unsigned(3) {
-        Unsigned::Not => options(
-            Request {
-                whole: true,
-                start: 0,
-                end: 0,
-                lower,
-                upper,
-            },
-            3,
-            count,
-        ),
-        Unsigned::Is(start) => match unsigned(4) {
-            Unsigned::Not => Command::Wrong,
-            Unsigned::Is(end) => options(
-                Request {
-                    whole: false,
-                    start,
-                    end,
-                    lower,
-                    upper,
-                },
-                5,
-                count,
-            ),
-        },
-    }
-}
-
-// find FILE K..: at least one number, and nothing else.
-fn find(count: usize) -> Command {
-    if count < 4 {
-        return Command::Wrong;
-    }
-    let mut i = 3;
-    while i < count {
-        let Signed::Is(_) = signed(i) else {
-            return Command::Wrong;
-        };
-        i += 1;
-    }
-    Command::Find
-}
-
-fn named(word: &[u8], count: usize) -> Command {
-    if check::same(word, b"help") {
-        return Command::Help;
-    }
-    if count < 3 {
-        return Command::Wrong;
-    }
-    if check::same(word, b"check") {
-        if count == 3 {
-            return Command::Check;
+    if end < word.len() {
+        if RISING <= option {
+            return wrong(i, 0, places);
         }
-        return Command::Wrong;
+        return valued(option, &word[end + 1..], i, 1, places);
+    }
+    if RISING <= option {
+        places[option] = i;
+        return 1;
+    }
+    value_after(option, after, places)
+}
+
+// Takes a number that is asked for.
+fn asked(word: &[u8], i: usize, places: &mut [usize; 16]) -> usize {
+    if !is_number(word) {
+        return wrong(i, 1, places);
+    }
+    places[OPERANDS] = 2;
+    1
+}
+
+// Takes an index of the window: operand 1 is START, operand 2 is END.
+fn index(word: &[u8], operand: usize, i: usize, places: &mut [usize; 16]) -> usize {
+    if 2 < operand {
+        return wrong(i, 0, places);
+    }
+    match read_unsigned(word) {
+        Unsigned::Not => wrong(i, 1, places),
+        Unsigned::Is(_) => {
+            places[operand] = i;
+            places[OPERANDS] = operand + 1;
+            1
+        }
+    }
+}
+
+// Takes a word that is no option: the file first.
+fn operand(command: Command, word: &[u8], i: usize, places: &mut [usize; 16]) -> usize {
+    let operands = places[OPERANDS];
+    if operands == 0 {
+        places[FILE] = i;
+        places[OPERANDS] = 1;
+        return 1;
+    }
+    match command {
+        Command::Find => asked(word, i, places),
+        Command::List => index(word, operands, i, places),
+        _ => wrong(i, 0, places),
+    }
+}
+
+// Whether a word has to be an option: it begins with a dash, and is neither a dash alone nor a number.
+fn is_option(word: &[u8]) -> bool {
+    if word.len() < 2 {
+        return false;
+    }
+    if word[0] != 45 {
+        return false;
+    }
+    !is_number(word)
+}
+
+// Takes a word. Answers how many arguments were taken, 1 or 2.
+fn taken(command: Command, word: &[u8], i: usize, after: usize, places: &mut [usize; 16]) -> usize {
+    if places[PLAIN] != 0 {
+        return operand(command, word, i, places);
+    }
+    if !is_option(word) {
+        return operand(command, word, i, places);
+    }
+    if check::same(word, b"--") {
+        places[PLAIN] = i;
+        return 1;
+    }
+    option(command, word, i, after, places)
+}
+
+fn argument(command: Command, i: usize, after: usize, places: &mut [usize; 16]) -> usize {
+    let mut buf = io::buffer();
+    let n = os::arg(i, &mut buf);
+    taken(command, &buf[..n], i, after, places)
+}
+
+// Takes the arguments from 2 on, up to the first that is wrong.
+fn take_all(command: Command, count: usize, places: &mut [usize; 16]) {
+    let mut i = 2;
+    while i < count {
+        let took = argument(command, i, i + 1, places);
+        if places[WRONG] != 0 {
+            return;
+        }
+        i += 1;
+        if took == 2 {
+            if i < count {
+                i += 1;
+            }
+        }
+    }
+}
+
+fn named(word: &[u8]) -> Command {
+    if check::same(word, b"check") {
+        return Command::Check;
     }
     if check::same(word, b"list") {
-        return list(count);
+        return Command::List;
     }
     if check::same(word, b"find") {
-        return find(count);
+        return Command::Find;
     }
     Command::Wrong
 }
 
-pub fn given() -> Command {
+fn first() -> Command {
     let mut buf = io::buffer();
     let n = os::arg(1, &mut buf);
-    named(&buf[..n], os::arg_count())
+    named(&buf[..n])
+}
+
+// What is asked for, and where the words for it stand; or Wrong, and which word is.
+pub fn given(places: &mut [usize; 16]) -> Command {
+    let count = os::arg_count();
+    let command = first();
+    if let Command::Wrong = command {
+        places[WRONG] = 1;
+        return Command::Wrong;
+    }
+    take_all(command, count, places);
+    if places[WRONG] != 0 {
+        return Command::Wrong;
+    }
+    together(command, count, places);
+    if places[WRONG] != 0 {
+        return Command::Wrong;
+    }
+    command
+}
+
+// Takes argument i among the numbers that are asked for, if it is one. Answers how many there are then.
+fn collect(file: usize, i: usize, out: &mut [i64; 512], n: usize) -> usize
+    requires { ⌜ n < 512 ⌝ }
+    ensures { λ r. ⌜ r ≤ 512 ⌝ }
+{
+    if i == file {
+        return n;
+    }
+    match signed(i) {
+        Signed::Not => n,
+        Signed::Is(k) => {
+            out[n] = k;
+            n + 1
+        }
+    }
+}
+
+// What the arguments from one on came to: so many numbers, and the argument to go on from.
+pub struct Batch {
+    pub count: usize,
+    pub next: usize,
+}
+
+// The numbers that are asked for among the arguments from one on, as many as there is room for. Of the words of `find` no other is a number but,
+// perhaps, the file.
+pub fn numbers(file: usize, from: usize, out: &mut [i64; 512]) -> Batch {
+    let count = os::arg_count();
+    let mut n = 0;
+    let mut i = from;
+    while i < count && n < 512 {
+        n = collect(file, i, out, n);
+        i += 1;
+    }
+    Batch { count: n, next: i }
 }

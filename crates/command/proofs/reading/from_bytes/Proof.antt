@@ -1,4 +1,4 @@
--- `command::reading::from_bytes` lends parts that are there. Assumes nothing.
+-- `command::reading::from_bytes` lends parts that are there, and answers only where the record has all bytes. Assumes nothing.
 use native.Mathlib.Omega.{arith}
 use lib.ListN.{length-take}
 use borrow.Author.Needs.{needs}
@@ -26,6 +26,12 @@ refused-requires c κs = search needs
 enum-known-count : tie.Need-enum-known-count
 enum-known-count c = search needs
 
+over-requires : tie.Need-over-requires
+over-requires c κs = search needs
+
+returns : tie.Need-returns
+returns c = search needs
+
 at-most-requires : tie.Need-at-most-requires
 at-most-requires c κs = search needs
 
@@ -50,11 +56,11 @@ slice-aggregate-from-column-3 c = simp length-take (omega arith)
 from-column-requires : tie.Need-from-column-requires
 from-column-requires c κs = search needs
 
-returns : tie.Need-returns
-returns c = search needs
-
 returns-2 : tie.Need-returns-2
 returns-2 c = search needs
+
+returns-3 : tie.Need-returns-3
+returns-3 c = search needs
 
 pub from-bytes-spec : {M : Type 1} → statement M
 from-bytes-spec =
@@ -67,6 +73,8 @@ from-bytes-spec =
     enum-known-why
     refused-requires
     enum-known-count
+    over-requires
+    returns
     at-most-requires
     array-share-prefix-starts
     slice-aggregate-from-column
@@ -75,5 +83,5 @@ from-bytes-spec =
     array-share-prefix-steps
     slice-aggregate-from-column-3
     from-column-requires
-    returns
-    returns-2)
+    returns-2
+    returns-3)

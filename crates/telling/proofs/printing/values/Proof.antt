@@ -5,10 +5,10 @@ use Rattle.telling.proofs.printing.values.Statement.{statement}
 use Rattle.telling.proofs.printing.values.Tie as tie
 
 abbrev Inv-loop : tie.InvT-loop
-Inv-loop list count buf₀ at₀ i₀ buf at i = (i ≤ 2048) × (at ≤ 22 * i)
+Inv-loop list count lead buf₀ at₀ before₀ i₀ buf at before i = (i ≤ 2048) × (at ≤ 23 * i)
 
 abbrev μ-loop : tie.MeasureT-loop
-μ-loop list count buf₀ at₀ i₀ buf at i = 2048 - i
+μ-loop list count lead buf₀ at₀ before₀ i₀ buf at before i = 2048 - i
 
 large-buffer-requires : tie.Need-large-buffer-requires Inv-loop μ-loop
 large-buffer-requires c κs = search needs
@@ -16,14 +16,17 @@ large-buffer-requires c κs = search needs
 loop-holds : tie.Need-loop-holds Inv-loop μ-loop
 loop-holds c = search needs
 
-mul-put : tie.Need-mul-put Inv-loop μ-loop
-mul-put c = search needs
+mul-put-item : tie.Need-mul-put-item Inv-loop μ-loop
+mul-put-item c = search needs
 
-element-copy-out-put : tie.Need-element-copy-out-put Inv-loop μ-loop
-element-copy-out-put c = search needs
+element-copy-out-put-item : tie.Need-element-copy-out-put-item Inv-loop μ-loop
+element-copy-out-put-item c = search needs
 
-put-requires : tie.Need-put-requires Inv-loop μ-loop
-put-requires c κs = search needs
+put-item-requires : tie.Need-put-item-requires Inv-loop μ-loop
+put-item-requires c κs = search needs
+
+next-requires : tie.Need-next-requires Inv-loop μ-loop
+next-requires c κs = search needs
 
 add-i : tie.Need-add-i Inv-loop μ-loop
 add-i c = search needs
@@ -48,9 +51,10 @@ values-spec =
     μ-loop
     large-buffer-requires
     loop-holds
-    mul-put
-    element-copy-out-put
-    put-requires
+    mul-put-item
+    element-copy-out-put-item
+    put-item-requires
+    next-requires
     add-i
     loop-less
     loop-again

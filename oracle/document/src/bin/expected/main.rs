@@ -7,6 +7,7 @@ use document::model::{Column, Session};
 use std::path::{Path, PathBuf};
 use std::process::ExitCode;
 
+mod cases;
 mod columns;
 mod command;
 mod listings;
@@ -19,7 +20,7 @@ fn main() -> ExitCode {
     match words.iter().map(String::as_str).collect::<Vec<_>>()[..] {
         ["--check"] => return check(),
         ["--write"] => stored().iter().for_each(|(name, data)| put(&root().join(name), data)),
-        ["--cases", folder] => command::cases(Path::new(folder)),
+        ["--cases", folder] => cases::cases(Path::new(folder)),
         _ => {
             eprintln!("expected --check | --write | --cases DIR");
             return ExitCode::from(2);

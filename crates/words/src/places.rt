@@ -1,0 +1,47 @@
+// Where the words stand that the command is called with: for each thing that can be asked for an argument's number, 0 where it is not asked for.
+// An array of numbers, since it is filled word by word and lent to each function that reads one.
+
+// operands: the record's file, and of `list` the window
+pub const FILE: usize = 0;
+
+pub const START: usize = 1;
+
+pub const END: usize = 2;
+
+// options with a value: where the value stands
+pub const FROM: usize = 3;
+
+pub const ABOVE: usize = 4;
+
+pub const TO: usize = 5;
+
+pub const BELOW: usize = 6;
+
+pub const NUMBERS: usize = 7;
+
+// the format: not where it stands, but which it is
+pub const FORMAT: usize = 8;
+
+pub const LINES: usize = 0;
+
+pub const CSV: usize = 1;
+
+pub const JSON: usize = 2;
+
+// options without
+pub const RISING: usize = 9;
+
+pub const FILLED: usize = 10;
+
+pub const COUNT: usize = 11;
+
+// `--`, after which no word is an option
+pub const PLAIN: usize = 12;
+
+// how many operands there are; of `find` up to 2, and then the second is a number
+pub const OPERANDS: usize = 13;
+
+// the first word that is not understood, or that is missing, and 1 where a number was wanted there
+pub const WRONG: usize = 14;
+
+pub const WANTED: usize = 15;

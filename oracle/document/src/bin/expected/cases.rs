@@ -1,0 +1,163 @@
+//! The cases of scripts/command-test: the files, the calls that the model answers, and those that are wrong.
+use crate::command::{answer, Answer};
+use crate::samples::{bark, damaged, record, written};
+use crate::{d, put};
+use document::calls::Runs;
+use std::path::Path;
+
+/// Calls that the model answers: a line each, its words.
+const CALLS: &str = include_str!("command.calls");
+
+/// Calls with a wrong word, or one too few: the words, and which of them is wrong (from 1 on; one more than there are: it is missing).
+const USAGE: [(&str, usize); 55] = [
+    ("", 1),
+    ("check", 2),
+    ("list", 2),
+    ("find", 2),
+    ("find bark", 3),
+    ("look bark", 1),
+    ("check bark bark", 3),
+    ("list bark 1", 4),
+    ("list bark 1 x", 4),
+    ("list bark -1 5", 3),
+    ("list bark 1 5 9", 5),
+    ("list bark --from", 4),
+    ("list bark --from x", 4),
+    ("list bark --from 1 --above 2", 6),
+    ("list bark --to 1 --below 2", 6),
+    ("list bark --from 1 --from 1", 5),
+    ("list bark --over 1", 3),
+    ("list bark 18446744073709551616 1", 3),
+    ("list bark 1 5 --from 9223372036854775808", 6),
+    ("list bark --from -9223372036854775809", 4),
+    ("list bark --from --to 3", 4),
+    ("find bark 3 x", 4),
+    ("find bark 3.5", 3),
+    ("find bark -", 3),
+    ("find bark +3", 3),
+    ("find bark 99999999999999999999", 3),
+    ("find nofile x", 3),
+    ("find damaged x", 3),
+    ("check bark --rising=1", 3),
+    ("check bark --rising --rising", 4),
+    ("check bark --filled", 3),
+    ("check bark --rise", 3),
+    ("check bark -r", 3),
+    ("check bark --format", 4),
+    ("check bark --format xml", 4),
+    ("check bark --format=", 3),
+    ("check bark --format=json --format=csv", 4),
+    ("check -- bark --rising", 4),
+    ("check --", 3),
+    ("list bark --from=x", 3),
+    ("list bark --from=", 3),
+    ("list bark --from=1 --above=2", 4),
+    ("list bark --rising", 3),
+    ("list bark --from = 3", 4),
+    ("find bark --filled", 4),
+    ("find bark 3 --filled --count", 5),
+    ("find bark 3 --from 3", 4),
+    ("find bark 3 --numbers few", 5),
+    ("find bark --numbers few 3", 4),
+    ("find bark --numbers", 4),
+    ("find bark --numbers=", 3),
+    ("find bark --numbers --count", 4),
+    ("find bark --numbers few --numbers few", 5),
+    ("find - --numbers -", 4),
+    ("find bark -- 3 --count", 5),
+];
+
+/// A case: the words, what is on standard input, the answer, and words that standard error has to have.
+type Case = (Vec<String>, Vec<u8>, Answer, String);
+
+/// The records that the calls name.
+fn files() -> Vec<(&'static str, Vec<u8>)> {
+    let bark = bark();
+    let long = Runs::of(&[
+        (i64::MIN, 32767, 3),
+        (-5000, 3, 2048),
+        (5000, 1, 2047),
+        (7047, 1, 1),
+        (8000, 7, 3000),
+        (i64::MAX - 1, 1, 2),
+    ]);
+    let most: Vec<_> = (0..4096).map(|i| (7 * i, 0, 1)).collect();
+    vec![
+        ("damaged", damaged()),
+        ("long", written(&long)),
+        ("falling", written(&d())),
+        ("after", [&bark[..], b"garbage"].concat()),
+        ("twice", [&bark[..], &bark[..]].concat()),
+        ("zero", [&bark[..], &[0]].concat()),
+        ("mosts", written(&Runs::of(&most)).repeat(2)),
+        ("far", [&bark[..], &[7; 200_000]].concat()),
+        ("none", record(2, 1, &[])),
+        ("most", written(&Runs::of(&most))),
+        ("over", record(30, 1, &[(0, 0, u32::MAX), (0, 0, 1)])),
+        ("full", record(16, 1, &[(i64::MIN, 32767, u32::MAX)])),
+        ("reach", record(16, 1, &[(i64::MAX, 1, 2)])),
+        ("kind", record(16, 2, &[(1, 1, 1)])),
+        ("size", [&17u32.to_le_bytes()[..], &[1; 17]].concat()),
+        ("short", [&1u32.to_le_bytes()[..], &[0; 9]].concat()),
+        ("large", [&57360u32.to_le_bytes()[..], &[0; 57360]].concat()),
+        ("cut", bark[..bark.len() - 1].to_vec()),
+        ("three", bark[..3].to_vec()),
+        ("empty", vec![]),
+        ("bark", bark),
+        ("few", b"3\n4\n5\n".to_vec()),
+        ("unended", b"3\r\n4\r\n-5".to_vec()),
+        ("nothing", vec![]),
+        ("word", b"3\n4\nfive\n6\n".to_vec()),
+        ("last", b"3\n4\n5 ".to_vec()),
+        ("blank", b"3\n\n5\n".to_vec()),
+        ("out", b"9223372036854775807\n9223372036854775808\n".to_vec()),
+        ("zeros", [&[b'0'; 63][..], b"5\n", &[b'0'; 64], b"5\n"].concat()),
+        ("many", (-700..2300).map(|k| format!("{k}\n")).collect::<String>().into_bytes()),
+        ("wide", (0..1500).map(|k| format!("{}\n", i64::MIN + k)).collect::<String>().into_bytes()),
+        ("late", (0..2000).map(|k| format!("{k}\n")).chain(["x\n".into()]).collect::<String>().into_bytes()),
+    ]
+}
+
+/// Writes the files, and a folder a case: 'words' (one a line), 'stdin', 'stdout', 'last' (the last line on standard error), 'said' (words that
+/// standard error has to have) and 'status'. In a call `< NAME` is what standard input holds.
+pub fn cases(folder: &Path) {
+    let files = files();
+    files.iter().for_each(|(name, data)| put(&folder.join(name), data));
+    let split = |line: &str| line.split_whitespace().map(String::from).collect::<Vec<_>>();
+    let held = |name: &str| files.iter().find(|(n, _)| *n == name).unwrap_or_else(|| panic!("no file {name}")).1.clone();
+    let mut rows: Vec<Case> = Vec::new();
+    for line in CALLS.lines() {
+        let (line, input) = line.split_once(" < ").map_or((line, vec![]), |(line, name)| (line, held(name)));
+        let words = split(line);
+        let read = |name: &str| if name == "-" { input.clone() } else { held(name) };
+        let (answer, said) = answer(&words, &read);
+        rows.push((words, input, answer, said));
+    }
+    for (line, wrong) in USAGE {
+        let words = split(line);
+        let said = words.get(wrong - 1).map_or("a word is missing at the end".into(), |word| format!("word {wrong}, '{word}', is n"));
+        rows.push((words, vec![], (String::new(), "usage".into(), 64), said));
+    }
+    rows.extend(without_file().map(|words| (words, vec![], (String::new(), "no file".into(), 66), String::new())));
+    for (i, (words, input, (out, last, status), said)) in rows.iter().enumerate() {
+        let case = folder.join(format!("case{i:03}"));
+        std::fs::create_dir(&case).unwrap_or_else(|e| panic!("{}: {e}", case.display()));
+        let lines = |words: &[String]| words.iter().map(|w| format!("{w}\n")).collect::<String>();
+        put(&case.join("words"), lines(words));
+        put(&case.join("stdin"), input);
+        put(&case.join("stdout"), out);
+        put(&case.join("last"), lines(&[last.clone()][usize::from(last.is_empty())..]));
+        put(&case.join("said"), said);
+        put(&case.join("status"), format!("{status}\n"));
+    }
+}
+
+/// Files that are not there, a folder, no name, and names that are too long.
+fn without_file() -> [Vec<String>; 9] {
+    let check = |name: &str| vec!["check".to_string(), name.to_string()];
+    let find = ["find", "nofile", "3"].map(String::from).to_vec();
+    let list = ["list", "nofile"].map(String::from).to_vec();
+    let numbers = ["find", "bark", "--numbers", "nofile", "--format=csv"].map(String::from).to_vec();
+    let folder = ["find", "bark", "--numbers=."].map(String::from).to_vec();
+    [numbers, folder, check("nofile"), list, find, check("."), check(""), check(&"x".repeat(300)), check(&"x".repeat(5000))]
+}
