@@ -24,6 +24,9 @@
 #include <stddef.h>
 #include <stdint.h>
 
+/* The version, as the file VERSION of the repository has it. */
+#define LOFTSPLICE_VERSION "0.1.0"
+
 #ifdef __cplusplus
 extern "C" {
 #endif
