@@ -30,7 +30,7 @@ use Rattle.loftsplice.proofs.Stretches.{those-join}
 use Rattle.theorems.specs.Exact.{accepted}
 use Rattle.theorems.specs.Runs.{risingWindow}
 use Rattle.theorems.specs.Batch.{span, elements, meetsFolded, wide, total, begin, count, part}
-use Rattle.theorems.specs.Cuts.{ordered, partCount, parts, window, cutAt, whole, Share, Shares, windowsOf, together, countsIn}
+use Rattle.theorems.specs.Cuts.{ordered, partCount, parts, window, cutAt, whole, Share, Shares, shareWindows, together, shareCounts}
 use Rattle.theorems.proofs.ListingCalls.{list-accepts, list-gives, out-filled}
 use Rattle.theorems.proofs.ScanRuns.{rising-parts}
 use Rattle.theorems.proofs.Parts.{those-number}
@@ -180,13 +180,13 @@ module _ (w : Batch) (h : accepted (listOf w) ≡ true) (k : ℕ) (l : k < lengt
       under : Source → Mode → Bounds → Bounds → List ℤ
       under p m lows ups = valuesIn (p .sequence) (greatest (bounds lows)) (least m (bounds ups)) (span (x .batch) (x .place))
 
-  together-is : (xs : List Share) → ((x : Share) → In x xs → Shares w x) → together xs ≡ valuesOf (w .source .sequence) (low w) (up w) (windowsOf xs)
+  together-is : (xs : List Share) → ((x : Share) → In x xs → Shares w x) → together xs ≡ valuesOf (w .source .sequence) (low w) (up w) (shareWindows xs)
   unfolding together valuesOf
   together-is [] f = refl
   together-is (x ∷ xs) f = rw (share-is x (f x (inl refl)), together-is xs (λ y i. f y (inr i)))
 
   pub shares-join : (xs : List Share) → ((x : Share) → In x xs → Shares w x) → (ms : List ℕ) → ordered (span w k .start) ms (span w k .end) ≡ true
-      → windowsOf xs ≡ parts (span w k .start) ms (span w k .end) → together xs ≡ part w k
+      → shareWindows xs ≡ parts (span w k .start) ms (span w k .end) → together xs ≡ part w k
   unfolding valuesIn
   shares-join xs f ms o e =
       together-is xs f ∙ ap (valuesOf (w .source .sequence) (low w) (up w)) e
@@ -210,15 +210,15 @@ module _ (w : Batch) (h : accepted (listOf w) ≡ true) (k : ℕ) (l : k < lengt
   share-long : (b : Batch) → accepted (listOf b) ≡ true → (j : ℕ) → j < length (b .starts) → count b j ≡ length (part b j)
   share-long b g j m = count-is b g j m ∙ sym (those-number (meetsFolded b) (elements b j)) ∙ ap length (sym (part-is b g j m))
 
-  together-long : (xs : List Share) → ((x : Share) → In x xs → Shares w x) → total (countsIn xs) ≡ length (together xs)
+  together-long : (xs : List Share) → ((x : Share) → In x xs → Shares w x) → total (shareCounts xs) ≡ length (together xs)
   unfolding together total
   together-long [] f = refl
   together-long (x ∷ xs) f =
       let s = f x (inl refl) in
-      ap (λ n. n + total (countsIn xs)) (share-long (x .batch) (s .fine) (x .place) (s .there))
+      ap (λ n. n + total (shareCounts xs)) (share-long (x .batch) (s .fine) (x .place) (s .there))
       ∙ ap (λ n. length (part (x .batch) (x .place)) + n) (together-long xs (λ y i. f y (inr i)))
       ∙ sym (length-append (part (x .batch) (x .place)) (together xs))
 
   pub shares-add : (xs : List Share) → ((x : Share) → In x xs → Shares w x) → (ms : List ℕ) → ordered (span w k .start) ms (span w k .end) ≡ true
-      → windowsOf xs ≡ parts (span w k .start) ms (span w k .end) → total (countsIn xs) ≡ count w k
+      → shareWindows xs ≡ parts (span w k .start) ms (span w k .end) → total (shareCounts xs) ≡ count w k
   shares-add xs f ms o e = together-long xs f ∙ ap length (shares-join xs f ms o e) ∙ sym (share-long w h k l)

@@ -78,11 +78,11 @@ pub record Shares (b : Batch) (x : Share) : Type 0 where
   pub same-upper : x .batch .upper ≡ b .upper
 
 -- the window of each, the count of each, and what all of them were given, one after the other
-abbrev pub windowsOf : List Share → List Span
-windowsOf xs = map (λ (x : Share). span (x .batch) (x .place)) xs
+abbrev pub shareWindows : List Share → List Span
+shareWindows xs = map (λ (x : Share). span (x .batch) (x .place)) xs
 
-abbrev pub countsIn : List Share → List ℕ
-countsIn xs = map (λ (x : Share). count (x .batch) (x .place)) xs
+abbrev pub shareCounts : List Share → List ℕ
+shareCounts xs = map (λ (x : Share). count (x .batch) (x .place)) xs
 
 unfoldable pub together : List Share → List ℤ
 together [] = []
