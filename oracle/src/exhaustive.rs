@@ -86,12 +86,32 @@ pub fn scans(runs: &Runs, depth: usize, tally: &mut Tally) {
             let targets = if empty || !column.rises(start, end) { vec![5] } else { around(&column, start, end) };
             alphabet.extend(targets.into_iter().map(Call::Seek));
             tree(&mut bench, (start, end), &[], &alphabet, if empty { depth.min(2) } else { depth }, tally);
+            // Runs where the window begins or ends with the column; random columns have the others.
+            if start == 0 || end == length {
+                runs_of_calls(&mut bench, start, end, tally);
+            }
             if tally.full() {
                 return;
             }
         }
     }
     scans_by_hand(&mut bench, length, tally);
+}
+
+/// Runs of calls in a window, from fresh, from its first and its last element and from past it: of nexts, none, few and one more than there are; of seeks of
+/// every two of three values around the elements, rising or not, and of all values, into room that is right, longer or one short.
+fn runs_of_calls(bench: &mut Bench, start: u64, end: u64, tally: &mut Tally) {
+    let elements = end.saturating_sub(start) as usize;
+    let nexts = [0, 1, 2, elements, elements + 1].map(Call::NextRun);
+    let rises = start < end && bench.column.rises(start, end);
+    let all = if rises { around(bench.column, start, end) } else { vec![5] };
+    let few: Vec<i64> = all.iter().copied().step_by(1 + all.len() / 3).collect();
+    let pairs = few.iter().flat_map(|&a| few.iter().map(move |&b| Call::SeekRun(vec![a, b], 2)));
+    let rooms = [all.len() + 2, all.len(), all.len().saturating_sub(1), 0].map(|places| Call::SeekRun(all.clone(), places));
+    let calls: Vec<Call> = nexts.into_iter().chain(pairs).chain(rooms).chain([Call::SeekRun(vec![], 0)]).collect();
+    for before in [0, 1, elements, elements + 1] {
+        tree(bench, (start, end), &[Call::NextRun(before)], &calls, 1, tally);
+    }
 }
 
 /// Scans that no call gives: ends above the length, indices outside the window, a value that is missing, is another, or does not belong there.
@@ -105,6 +125,10 @@ fn scans_by_hand(bench: &mut Bench, length: u64, tally: &mut Tally) {
         Call::Reset,
         Call::Narrow(0, length),
         Call::Narrow(0, length + 1),
+        Call::NextRun(0),
+        Call::NextRun(3),
+        Call::SeekRun(vec![], 0),
+        Call::SeekRun(vec![5, 6], 1),
         Call::FilterNext(lists.clone()),
         Call::FilterSeek(5, lists),
         Call::FilterCurrent,

@@ -160,6 +160,8 @@ impl Session {
                 }
             }
             Call::Reset => done(self.moved(raw::scan_reset(scan, starts, ends, steps))),
+            Call::NextRun(places) => self.ran(*places, |out| raw::scan_next_run(scan, starts, ends, steps, out)),
+            Call::SeekRun(targets, places) => self.ran(*places, |out| raw::scan_seek_run(scan, starts, ends, steps, targets, out)),
             Call::Narrow(start, end) => done(self.moved(raw::scan_narrow(scan, starts, ends, steps, *start, *end))),
             Call::FilterNew(wins, lower, upper) => {
                 desk.constants(0, lower);
@@ -218,12 +220,28 @@ impl Session {
         self.filter.expect("a filter was made")
     }
 
-    fn moved(&mut self, m: raw::Moved) -> Said {
+    fn stands(&mut self, scan: raw::Scan) {
         match &mut self.filter {
-            Some(f) => f.scan = m.scan,
-            None => self.scan = m.scan,
+            Some(f) => f.scan = scan,
+            None => self.scan = scan,
         }
+    }
+
+    fn moved(&mut self, m: raw::Moved) -> Said {
+        self.stands(m.scan);
         answer(m.answer)
+    }
+
+    /// A run of calls into so many places, filled beforehand; those beyond its values, and all after a refusal, must hold that still.
+    fn ran(&mut self, places: usize, run: impl FnOnce(&mut [i64]) -> raw::Ran) -> Said {
+        let mut out = vec![OUT; places];
+        let ran = run(&mut out);
+        self.stands(ran.scan);
+        let count = ran.count as usize;
+        assert!(ran.refusal == 0 || count == 0, "values and a refusal");
+        untouched(&out[count..], OUT);
+        out.truncate(count);
+        if ran.refusal == 0 { Said::Ran(out) } else { Said::Refused(ran.refusal) }
     }
 
     fn sifted(&mut self, s: raw::Sifted) -> Said {
@@ -313,7 +331,6 @@ fn written(runs: &Runs, places: usize) -> Said {
     if answer.refusal == 0 { Said::Written(out[..n].to_vec()) } else { Said::Refused(answer.refusal) }
 }
 
-#[cfg(any(feature = "listing", feature = "record"))]
 fn untouched<T: PartialEq + std::fmt::Debug>(places: &[T], held: T) {
     if let Some(at) = places.iter().position(|p| *p != held) {
         panic!("a place beyond the answer was written: {at} from its end holds {:?}", places[at]);

@@ -168,6 +168,30 @@ fn call(d: &mut Dice, c: &model::Column, values: &[i64], filter: bool) -> Call {
     }
 }
 
+/// Runs of calls in place of some single ones, on the same column: of nexts, mostly few, and of seeks, rising or not, into room that is right, long or short.
+pub fn with_runs(d: &mut Dice, c: &model::Column, calls: &mut [Call]) {
+    let most = (2 * c.runs.ends.len() as u64 + 9).min(400);
+    for call in calls {
+        let n = match d.below(8) {
+            0 => 0,
+            1 => d.below(most),
+            _ => d.below(9),
+        };
+        match call {
+            Call::Next if d.once_in(2) => *call = Call::NextRun(n as usize),
+            Call::Seek(_) if d.once_in(2) => {
+                let mut targets: Vec<i64> = (0..n).map(|_| value(d, c)).collect();
+                if !d.once_in(4) {
+                    targets.sort_unstable();
+                }
+                let places = targets.len().saturating_add_signed(d.pick(&[0, 0, 0, 0, 3, -1, -3, -1000]));
+                *call = Call::SeekRun(targets, places);
+            }
+            _ => {}
+        }
+    }
+}
+
 /// Values that inputs may have.
 pub fn values(d: &mut Dice, c: &model::Column) -> Vec<i64> {
     let mut values: Vec<i64> = (0..6).map(|_| value(d, c)).collect();
@@ -286,7 +310,10 @@ pub fn round(d: &mut Dice, most: u64, tally: &mut Tally) {
     }
     for _ in 0..if broken { 1 } else { 12 } {
         let kind = d.pick(&["scan", "mixed"]);
-        let calls = calls_of(d, &c, &values, if big { 30 } else { 60 }, kind);
+        let mut calls = calls_of(d, &c, &values, if big { 30 } else { 60 }, kind);
+        if d.once_in(2) {
+            with_runs(d, &c, &mut calls);
+        }
         sequence(&mut bench, &calls, tally);
         if tally.full() {
             return;
@@ -300,7 +327,8 @@ pub fn round(d: &mut Dice, most: u64, tally: &mut Tally) {
             return;
         }
     }
-    let (scan, filter, calls) = hand_calls(d, &c, &values);
+    let (scan, filter, mut calls) = hand_calls(d, &c, &values);
+    with_runs(d, &c, &mut calls);
     by_hand(&mut bench, scan, filter, &calls, tally);
     for wins in [Wins::Inclusive, Wins::Inclusive, Wins::Exclusive] {
         let listing = listing(d, &c, wins);

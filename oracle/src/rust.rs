@@ -119,6 +119,9 @@ impl<'a> Session<'a> {
                 self.cell.narrow(*start as usize..*end as usize);
                 Said::Ok
             }
+            // It has no runs: its single calls one after the other, up to the first none.
+            Call::NextRun(places) => Said::Ran((0..*places).map_while(|_| self.cell.next()).collect()),
+            Call::SeekRun(targets, _) => Said::Ran(targets.iter().map_while(|t| self.cell.seek(*t)).collect()),
             // Its filter has one mode: who asks it leaves the others out.
             Call::FilterNew(_, lower, upper) => {
                 let lists = Lists::default();

@@ -14,13 +14,14 @@ fn differences(text: &str) -> Vec<String> {
     found
 }
 
-/// P1 to P12, document 02's places, the cases of request 4, scans that do not carry what they stand on, cuts and chained seeks, with every side that is there.
+/// P1 to P12, document 02's places, the cases of request 4, scans that do not carry what they stand on, cuts and chained seeks, runs of
+/// calls, with every side that is there.
 #[test]
 fn examples_of_the_documents() {
     let cases = corpus::cases(EXAMPLES).expect("the examples");
-    assert_eq!(cases.len(), 45);
+    assert_eq!(cases.len(), 47);
     let lines: usize = cases.iter().map(|c| c.lines.len()).sum();
-    assert_eq!(lines, 236);
+    assert_eq!(lines, 252);
     assert_eq!(differences(EXAMPLES), Vec::<String>::new());
 }
 
@@ -66,6 +67,8 @@ fn every_call_reads_back() {
         Call::FilterSet(Wins::Inclusive, Mode::Within(None)),
         Call::FilterSet(Wins::Exclusive, Mode::Within(Some(Bound { value: -3, exclusive: true }))),
         Call::Read(vec![], [1, 2, 3]),
+        Call::NextRun(usize::MAX),
+        Call::SeekRun(vec![i64::MIN, 4], 0),
         Call::Diff(i64::MIN, i64::MAX),
     ] {
         assert_eq!(corpus::call(&call.to_string()), Ok(call.clone()), "{call}");

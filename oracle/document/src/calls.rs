@@ -78,6 +78,10 @@ pub enum Call {
     Pos,
     Reset,
     Narrow(u64, u64),
+    /// As many nexts as the output has places, in one call.
+    NextRun(usize),
+    /// A seek of each target in turn, in one call, and the places of the output.
+    SeekRun(Vec<i64>, usize),
     FilterNew(Wins, Vec<Constant>, Vec<Constant>),
     FilterNext(Lists),
     FilterSeek(i64, Lists),
@@ -94,7 +98,7 @@ pub enum Call {
     Write(usize),
 }
 
-/// What a call said. The three with arrays hold the answer's own places; the places beyond are looked at where the call is made (`Filled::whole`).
+/// What a call said. The four with arrays hold the answer's own places; the places beyond are looked at where the call is made (`Filled::whole`).
 #[derive(Clone, Debug, PartialEq, Eq)]
 pub enum Said {
     None,
@@ -104,6 +108,7 @@ pub enum Said {
     Refused(u32),
     Length(u64),
     Place(u64, u64, u64),
+    Ran(Vec<i64>),
     Listed { sum: u64, counts: Vec<u64>, out: Vec<i64> },
     Read { used: u64, runs: Runs },
     Written(Vec<u8>),

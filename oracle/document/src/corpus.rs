@@ -1,4 +1,5 @@
-//! The text format of call sequences and answers (documents CORPUS and CORPUS2): printing, and reading any file of that format.
+//! The text format of call sequences and answers (documents CORPUS and CORPUS2): printing, and reading any file of that format. A run of calls, which they
+//! do not have, is `nextrun <places>` and `seekrun <targets> <places>`, its answer `n <n> out <list>` and the scan after it.
 use crate::calls::*;
 use crate::model::Sieve;
 use std::fmt::Display;
@@ -99,6 +100,8 @@ impl Display for Call {
             Call::Pos => f.write_str("pos"),
             Call::Reset => f.write_str("reset"),
             Call::Narrow(s, e) => write!(f, "narrow {s} {e}"),
+            Call::NextRun(p) => write!(f, "nextrun {p}"),
+            Call::SeekRun(t, p) => write!(f, "seekrun {} {p}", list(t)),
             Call::FilterNew(wins, l, u) => write!(f, "fnew {wins} {} {}", list(l), list(u)),
             Call::FilterNext(l) => write!(f, "fnext {l}"),
             Call::FilterSeek(t, l) => write!(f, "fseek {t} {l}"),
@@ -139,6 +142,7 @@ impl Display for Said {
             Said::Refused(n) => write!(f, "r {n}"),
             Said::Length(n) => write!(f, "length {n}"),
             Said::Place(r, k, n) => write!(f, "p {r} {k} {n}"),
+            Said::Ran(v) => write!(f, "n {} out {}", v.len(), list(v)),
             Said::Listed { sum, counts, out } => write!(f, "sum {sum} counts {} out {}", list(counts), list(out)),
             Said::Read { used, runs } => write!(
                 f,
@@ -281,6 +285,8 @@ pub fn call(text: &str) -> Parsed<Call> {
         ["pos"] => Call::Pos,
         ["reset"] => Call::Reset,
         ["narrow", s, e] => Call::Narrow(number(s)?, number(e)?),
+        ["nextrun", p] => Call::NextRun(number(p)?),
+        ["seekrun", t, p] => Call::SeekRun(numbers(t)?, number(p)?),
         ["fnew", w, l, u] => Call::FilterNew(wins(w)?, items(l, bound)?, items(u, bound)?),
         ["fnext", l, u, i] => Call::FilterNext(lists(&[l, u, i])?),
         ["fseek", t, l, u, i] => Call::FilterSeek(number(t)?, lists(&[l, u, i])?),
@@ -318,6 +324,13 @@ fn said(text: &str) -> Parsed<Said> {
         ["r", n] => Said::Refused(number(n)?),
         ["length", n] => Said::Length(number(n)?),
         ["p", r, k, n] => Said::Place(number(r)?, number(k)?, number(n)?),
+        ["n", n, "out", o] => {
+            let out = numbers(o)?;
+            if out.len() != number::<usize>(n)? {
+                return Err(format!("{n} values are said, and {} follow", out.len()));
+            }
+            Said::Ran(out)
+        }
         ["sum", n, "counts", c, "out", o] => {
             Said::Listed { sum: number(n)?, counts: numbers(c)?, out: numbers(o)? }
         }

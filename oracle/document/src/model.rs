@@ -228,6 +228,20 @@ impl<'a> Session<'a> {
                 self.scan = Scan::fresh(*start, *end);
                 Said::Ok
             }
+            Call::NextRun(places) => {
+                self.tried()?;
+                Said::Ran((0..*places).map_while(|_| self.next()).collect())
+            }
+            Call::SeekRun(targets, places) => {
+                self.tried()?;
+                self.ordered()?;
+                // Request 20: "a `seek` of each target in turn .. stops at the first none"; "then 10 where `out` has fewer places than there are values".
+                let mut after = *self;
+                let values: Vec<i64> = targets.iter().map_while(|t| after.seek(*t)).collect();
+                refuse_if(values.len() > *places, ROOM)?;
+                *self = after;
+                Said::Ran(values)
+            }
             Call::FilterNew(wins, lower, upper) => {
                 refuse_if(lower.len() > 16 || upper.len() > 16, BOUNDS)?;
                 // "The lower bound is the greatest of all lower bounds, the upper the least of all upper bounds in that order".
