@@ -1,7 +1,7 @@
 -- A run of seeks on a scan: what a seek of each target comes to, and the call by cases. Assumes nothing.
 use Prim.Native.Nat.{ℕ, zero, suc, _-_, _≤_, _<_}
 use mathlib.Core.Path.{_≡_, refl, sym, ap, _∙_}
-use mathlib.Core.Logic.{_⊎_, inl, inr, ⊎-elim}
+use mathlib.Core.Logic.{⊎-elim}
 use mathlib.Core.Bool.{true, not}
 use mathlib.Core.List.{List, [], _∷_, _++_, map}
 use mathlib.Core.Option.{Option, some, none}
@@ -10,8 +10,8 @@ use borrow.Author.Tests.{lt-ltb, le-ltb, not-false}
 use lib.Dec.{ltb}
 use lib.IntN.{ℤ, pos}
 use lib.Signed.{ltZ}
-use lib.ListN.{length, getD, drop}
-use Rattle.ranges.proofs.Spans.{first-known, first-none}
+use lib.ListN.{length, getD, drop, List·getD-append}
+use Rattle.ranges.proofs.Spans.{first-known, first-none, lt-or-ge}
 use Rattle.meaning.specs.declared.Refusal.the-variants.{Room}
 use Rattle.meaning.specs.Refusals.{Gives, Number, Trial, tried}
 use Rattle.meaning.specs.Outputs.{after}
@@ -32,10 +32,6 @@ use Rattle.loftsplice.proofs.RunCases.{run-more, run-none}
 use Rattle.run_calls.specs.Landing.{landed, landings, Begun, roomFor}
 use Rattle.run_calls.proofs.Landings.{Before, answer-in}
 use Rattle.run_calls.proofs.Footings.{none-past, stands}
-
-split-zero : (n : ℕ) → (0 ≡ n) ⊎ (0 < n)
-split-zero zero = inl refl
-split-zero (suc n) = inr (omega arith)
 
 module _ (q : Sequence) where
   -- no targets, or nothing ahead
@@ -90,9 +86,9 @@ module _ (q : Sequence) where
       last : Answered xs (put q s (At (firstNotBelow q x i (s .end)))) (firstNotBelow q x i (s .end)) n → n ≡ length xs
           → seeksFrom q xs (put q s (At (firstNotBelow q x i (s .end)))) .scan ≡ put q s (At (landed q (s .end) xs (firstNotBelow q x i (s .end)) n))
       last r a = ⊎-elim
-          (λ (z : 0 ≡ n). let nothing : length xs ≡ 0 = omega arith in rw (← z) (ap (λ (w : Run). w .scan) (seeks-nothing xs (put q s (At (firstNotBelow q x i (s .end)))) nothing)))
           (λ (z : 0 < n). r .all a z)
-          (split-zero n)
+          (λ (z : n ≤ 0). let nil : n ≡ 0 = omega arith in let nothing : length xs ≡ 0 = omega arith in rw nil (ap (λ (w : Run). w .scan) (seeks-nothing xs (put q s (At (firstNotBelow q x i (s .end)))) nothing)))
+          (lt-or-ge 0 n)
 
   pub answered-values : {xs : List ℤ} {s : Scan} {i n : ℕ} → Answered xs s i n → landings q (s .end) xs i n ≡ seeksFrom q xs s .values
   answered-values {xs} {s} {i} {n} r = each-is (λ k. q .at (landed q (s .end) xs i (suc k))) (pos 0) (seeksFrom q xs s .values) n (sym (r .long)) (r .each-value)
@@ -138,12 +134,8 @@ module _ (q : Sequence) (s : Scan) (xs d : List ℤ) where
             ap (λ ys. getD ys (n - 1) (pos 0)) o ∙ front ∙ rw k
           where
             front : getD (landings q (s .end) xs i n ++ drop n d) (n - 1) (pos 0) ≡ q .at (landed q (s .end) xs i (suc (n - 1)))
-            front = before (landings q (s .end) xs i n) (drop n d) (n - 1) (rw each-length (omega arith)) ∙ each-at (λ k. q .at (landed q (s .end) xs i (suc k))) (pos 0) (n - 1) n (omega arith)
-              where
-                before : (ys zs : List ℤ) (k : ℕ) → k < length ys → getD (ys ++ zs) k (pos 0) ≡ getD ys k (pos 0)
-                before [] zs k l = absurd (omega arith)
-                before (y ∷ ys) zs zero l = refl
-                before (y ∷ ys) zs (suc k) l = before ys zs k (omega arith)
+            front = List·getD-append (landings q (s .end) xs i n) (drop n d) (pos 0) (n - 1) (rw each-length (omega arith))
+                ∙ each-at (λ k. q .at (landed q (s .end) xs i (suc k))) (pos 0) (n - 1) n (omega arith)
 
         pub given-all : (j : ℕ) (v : ℤ) → j ≡ landed q (s .end) xs i n → v ≡ getD out (n - 1) (pos 0) → n ≡ length xs → 0 < n
             → Given s (seeksFrom q xs s) d (record { scan = record { start = s .start; end = s .end; state = At j; value = Held v }; said = Gives n }) out

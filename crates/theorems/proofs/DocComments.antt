@@ -20,12 +20,12 @@ use Rattle.loftsplice.specs.declared.scan.Scan.{Scan}
 use Rattle.bounds.specs.declared.Bounds.{Bounds}
 use Rattle.bounds.specs.declared.Mode.{Mode}
 use Rattle.filter_interval.specs.declared.Filter.{Filter}
-use Rattle.loftsplice.specs.Scan.{Outcome, fresh, put, nextFrom, seekFrom, elementIn, indexIn, badScan, newOf, nextOf, seekOf, narrowOf, resetOf, currentOf, posOf}
+use Rattle.loftsplice.specs.Scan.{standing as standsIn, Outcome, fresh, put, nextFrom, seekFrom, elementIn, indexIn, badScan, newOf, nextOf, seekOf, narrowOf, resetOf, currentOf, posOf}
 use Rattle.loftsplice.proofs.ScanCases.{index-below, put-same}
 use Rattle.bounds.specs.Bounds.{bounds}
 use Rattle.filter_interval.specs.Filter.{newFilter, fitOf, filterResetOf}
 use Rattle.theorems.specs.Exact.{accepted}
-use Rattle.theorems.specs.Runs.{standsIn, standing}
+use Rattle.theorems.specs.Runs.{standing}
 use Rattle.theorems.proofs.ScanCalls.{new-accepts, new-does, next-accepts, next-does, seek-accepts, seek-does, narrow-accepts, narrow-does, reset-accepts, reset-does, pos-accepts, pos-does}
 use Rattle.theorems.proofs.FilterCalls.{fit-does}
 use Rattle.theorems.proofs.Carried.{sound-current}

@@ -19,9 +19,8 @@ use Rattle.loftsplice.specs.declared.scan.Move.{Move}
 use Rattle.loftsplice.specs.declared.scan.State.{State}
 use Rattle.loftsplice.specs.declared.scan.State.the-variants.{Fresh, At, Ended}
 use Rattle.loftsplice.specs.declared.scan.Scan.{Scan}
-use Rattle.loftsplice.specs.Scan.{Outcome, elementIn, carriedBy, sameValue, fresh, put, goTo, nextFrom, seekFrom, badScan, outside, moveScan}
+use Rattle.loftsplice.specs.Scan.{standing as standsIn, Outcome, elementIn, carriedBy, sameValue, fresh, put, goTo, nextFrom, seekFrom, badScan, outside, moveScan}
 use Rattle.loftsplice.proofs.ScanCases.{same-value, carries}
-use Rattle.theorems.specs.Runs.{standsIn}
 
 -- ---- to an index, or to the end
 

@@ -13,14 +13,12 @@ use Rattle.meaning.specs.Refusals.{Said, Gives, Number}
 use Rattle.meaning.specs.Sequence.{Sequence, Source, rises, elementsIn}
 use Rattle.loftsplice.specs.declared.scan.Move.the-variants.{Next, Seek}
 use Rattle.loftsplice.specs.declared.scan.Move.{Move}
-use Rattle.loftsplice.specs.declared.scan.State.{State}
-use Rattle.loftsplice.specs.declared.scan.State.the-variants.{Fresh, At, Ended}
 use Rattle.loftsplice.specs.declared.scan.Scan.{Scan}
 use Rattle.bounds.specs.declared.Bound.{Bound}
 use Rattle.bounds.specs.declared.Mode.{Mode}
 use Rattle.bounds.specs.declared.Mode.the-variants.{InclusiveWins, ExclusiveWins}
 use Rattle.filter_interval.specs.declared.Filter.{Filter}
-use Rattle.loftsplice.specs.Scan.{badScan, Go, saysAll, leftBy}
+use Rattle.loftsplice.specs.Scan.{standing as standsIn, badScan, Go, saysAll, leftBy}
 use Rattle.loftsplice.specs.Running.{Run}
 use Rattle.bounds.specs.Bounds.{meetsLower, meetsUpper}
 use Rattle.filter_interval.specs.Filter.{tooMany, Call, callOf, allReadable}
@@ -113,11 +111,6 @@ abbrev pub anything : ℤ → Bool
 anything v = true
 
 -- where a scan stands: fresh at the window's start, ended at its end
-abbrev pub standsIn : Scan → State → ℕ
-standsIn s Fresh = s .start
-standsIn s (At i) = i
-standsIn s Ended = s .end
-
 abbrev pub standing : Scan → ℕ
 standing s = standsIn s (s .state)
 

@@ -16,7 +16,8 @@ use Rattle.meaning.specs.Column.{Column, columnOf, startOf, stepOf, elementAt}
 use Rattle.meaning.proofs.Soundness.{Sound, sound-parts}
 use Rattle.run_calls.proofs.Landings.{rest-is, rest-long}
 use Rattle.run_calls.proofs.Footings.{Stands, stands}
-use Rattle.run_calls.proofs.Strips.{Entered, Seeking, Onward, Turn, held, strip, after, seeking-start, seeking-long, turn}
+use Rattle.run_calls.proofs.Strips.{Entered, held, strip, after}
+use Rattle.run_calls.proofs.Turns.{Seeking, Onward, Turn, seeking-start, seeking-long, turn}
 use borrow.Author.Needs.{needs}
 use Rattle.run_calls.proofs.write_seeks.Statement.{statement}
 use Rattle.run_calls.proofs.write_seeks.Tie as tie
