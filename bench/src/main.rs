@@ -34,6 +34,7 @@ mod listing;
 mod page;
 mod plain;
 mod record;
+mod runs;
 
 use clock::Clock;
 
@@ -54,6 +55,7 @@ fn main() {
     listing::measure(&mut clock);
     checks::measure(&mut clock);
     calls::measure(&mut clock);
+    runs::measure(&mut clock);
     record::measure(&mut clock);
     let table = page::table(&clock);
     println!("{table}");

@@ -39,6 +39,7 @@ fn each(unit: &str) -> &'static str {
         "element" => " an element",
         "run" => " a run",
         "call" => " a call",
+        "target" => " a target",
         _ => "",
     }
 }

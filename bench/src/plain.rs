@@ -68,3 +68,29 @@ pub fn fill(starts: &[i64], ends: &[u64], steps: &[i16], first: u64, beyond: u64
         run += 1;
     }
 }
+
+/// What a seek of each rising target in turn gives: the run is walked on to, then one division, or none. How many there are, up to the first none.
+#[inline(never)]
+pub fn merge(starts: &[i64], ends: &[u64], steps: &[i16], targets: &[i64], out: &mut [i64]) -> usize {
+    let (mut run, mut first, mut at) = (0, 0, 0);
+    for (count, (&target, place)) in targets.iter().zip(&mut *out).enumerate() {
+        while target > starts[run] + i64::from(steps[run]) * (ends[run] - first - 1) as i64 {
+            first = ends[run];
+            run += 1;
+            at = 0;
+            if run == ends.len() {
+                return count;
+            }
+        }
+        let (start, step) = (starts[run], i64::from(steps[run]));
+        let over = (target as u64).wrapping_sub(start as u64);
+        let offset = match step {
+            _ if target <= start => 0,
+            1 => over,
+            _ => (over + step as u64 - 1) / step as u64,
+        };
+        at = offset.max(at);
+        *place = start + step * at as i64;
+    }
+    targets.len()
+}

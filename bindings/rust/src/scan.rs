@@ -284,6 +284,22 @@ impl Iterator for Scan<'_> {
         let left = raw::places(self.left());
         (left, Some(left))
     }
+
+    /// What was fetched, part by part: `sum`, `count` and others that go to the end go by this.
+    fn fold<B, F: FnMut(B, i64) -> B>(mut self, first: B, mut f: F) -> B {
+        let mut whole = first;
+        while let Some(value) = self.next() {
+            whole = f(whole, value);
+            let rest = self.ahead.rest();
+            if let Some(&last) = rest.last() {
+                self.stands.index += rest.len() as u64;
+                self.stands.value = last;
+                whole = rest.iter().copied().fold(whole, &mut f);
+                self.ahead.forget();
+            }
+        }
+        whole
+    }
 }
 
 impl ExactSizeIterator for Scan<'_> {}

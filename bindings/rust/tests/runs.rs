@@ -1,4 +1,6 @@
 //! Runs of calls and the iterators that stand on them, beside single calls: on random columns, of few runs and of many, that rise or not.
+use std::panic::{catch_unwind, AssertUnwindSafe};
+
 use loftsplice::{raw, Column, Refusal, Scan, ScanState};
 
 /// Random numbers, the same in every run of the tests.
@@ -182,6 +184,26 @@ fn an_iterator_knows_how_many_are_left_and_stays_ended() {
 }
 
 #[test]
+fn to_the_end_from_anywhere() {
+    each_kind(|dice, column| {
+        let (mut scan, mut single) = (column.scan(), Single::of(column));
+        for _ in 0..dice.below(column.len() + 2) {
+            assert_eq!(scan.next(), single.next());
+        }
+        let left: Vec<i64> = core::iter::from_fn(|| single.next()).collect();
+        assert_eq!(scan.clone().count(), left.len());
+        for scan in [scan.clone(), scan] {
+            // with nothing fetched, and with what is left of a buffer
+            let folded = scan.fold(Vec::new(), |mut values, value| {
+                values.push(value);
+                values
+            });
+            assert_eq!(folded, left);
+        }
+    });
+}
+
+#[test]
 fn a_run_of_nexts_is_the_single_calls() {
     each_kind(|dice, column| {
         let (mut scan, mut single) = (column.scan(), Single::of(column));
@@ -263,6 +285,24 @@ fn each_seek_is_answered_as_alone_and_the_scan_stands_behind_the_last_that_was_r
             assert_eq!(scan.next(), single.next());
         }
     });
+}
+
+#[test]
+fn targets_that_panic_leave_the_scan_where_its_reader_stands() {
+    let lists = lists(&mut Dice(3), true, 3, 900);
+    let first = lists.0[0];
+    let mut scan = lists.column().scan();
+    let targets = (first..).inspect(|target| assert!(*target < first + 300, "no more targets"));
+    let read = catch_unwind(AssertUnwindSafe(|| {
+        scan.seek_each(targets).take(290).flatten().count()
+    }));
+    assert!(read.is_err());
+    let mut single = Single::of(lists.column());
+    for target in first..first + 256 {
+        single.seek(target).unwrap(); // those of the first run of seeks were read
+    }
+    assert_eq!(single.1.state, raw::AT);
+    same(&scan, &single);
 }
 
 #[test]

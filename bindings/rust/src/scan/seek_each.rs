@@ -38,9 +38,10 @@ impl<'s, 'a, I: Iterator<Item = i64>> SeekEach<'s, 'a, I> {
     fn ask(&mut self) {
         self.settle();
         let places = Ahead::places(self.scan.column.starts().len());
+        // before a target is taken: should that panic, the scan stays where it stands
+        self.read = 0;
         self.asked.clear();
         self.asked.extend(self.targets.by_ref().take(places));
-        self.read = 0;
         if self.asked.is_empty() {
             return;
         }
