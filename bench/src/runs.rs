@@ -135,19 +135,6 @@ fn iterate(clock: &mut Clock, runs: &Runs) {
     );
 }
 
-/// The same by `sum`, which goes to the end by itself.
-fn add_up(clock: &mut Clock, runs: &Runs) {
-    let (column, lent) = (runs.column(), lent(runs));
-    assert_eq!(lent.iter().sum::<i64>(), ColumnScanRle::new(&column).sum::<i64>());
-    clock.race(
-        "iterating by `sum`",
-        size(runs),
-        ("element", runs.len()),
-        work(|| black_box(lent).iter().sum::<i64>()),
-        vec![(Against { name: "the Rust's own scan, unchecked", target: None }, work(|| ColumnScanRle::new(black_box(&column)).sum::<i64>()))],
-    );
-}
-
 /// A program that asks about every number in turn, by the crate's iterator over answers and by the Rust's seek.
 fn ask_each(clock: &mut Clock, runs: &Runs) {
     let (column, lent, targets) = (runs.column(), lent(runs), &targets(runs, 1)[..]);
@@ -176,6 +163,5 @@ pub fn measure(clock: &mut Clock) {
     columns.iter().for_each(|runs| run_of_seeks(clock, runs, 1, "every number"));
     columns.iter().for_each(|runs| run_of_seeks(clock, runs, 100, "every hundredth"));
     columns.iter().for_each(|runs| iterate(clock, runs));
-    columns.iter().for_each(|runs| add_up(clock, runs));
     columns.iter().for_each(|runs| ask_each(clock, runs));
 }

@@ -66,6 +66,15 @@ impl<'a> Scan<'a> {
         }
     }
 
+    /// The scan with its buffer, out of a place where one without it stays.
+    #[inline]
+    fn leave(&mut self) -> Scan<'a> {
+        Scan {
+            ahead: core::mem::take(&mut self.ahead),
+            ..*self
+        }
+    }
+
     /// To where a call of the library left it.
     pub(crate) fn goes_to(&mut self, scan: raw::Scan) {
         self.stands = scan;
@@ -272,7 +281,10 @@ impl Iterator for Scan<'_> {
     #[inline]
     fn next(&mut self) -> Option<i64> {
         let Some(value) = self.ahead.take() else {
-            return self.fetch();
+            // by value: where no call takes its address, a loop keeps the scan in registers
+            let (answer, scan) = self.leave().fetched();
+            *self = scan;
+            return answer;
         };
         // from one element that was fetched to the next: at an index before and after
         self.stands.index += 1;
@@ -283,22 +295,6 @@ impl Iterator for Scan<'_> {
     fn size_hint(&self) -> (usize, Option<usize>) {
         let left = raw::places(self.left());
         (left, Some(left))
-    }
-
-    /// What was fetched, part by part: `sum`, `count` and others that go to the end go by this.
-    fn fold<B, F: FnMut(B, i64) -> B>(mut self, first: B, mut f: F) -> B {
-        let mut whole = first;
-        while let Some(value) = self.next() {
-            whole = f(whole, value);
-            let rest = self.ahead.rest();
-            if let Some(&last) = rest.last() {
-                self.stands.index += rest.len() as u64;
-                self.stands.value = last;
-                whole = rest.iter().copied().fold(whole, &mut f);
-                self.ahead.forget();
-            }
-        }
-        whole
     }
 }
 

@@ -27,11 +27,6 @@ impl Ahead {
         Some(value)
     }
 
-    /// All values that are not read yet.
-    pub(crate) fn rest(&self) -> &[i64] {
-        &self.values[self.read..]
-    }
-
     /// Values of a new run, into so many places.
     pub(crate) fn fill(
         &mut self,
@@ -59,7 +54,7 @@ impl Clone for Ahead {
 
 impl fmt::Debug for Ahead {
     fn fmt(&self, f: &mut fmt::Formatter<'_>) -> fmt::Result {
-        write!(f, "{} values", self.rest().len())
+        write!(f, "{} values", self.values.len() - self.read)
     }
 }
 

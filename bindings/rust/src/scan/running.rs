@@ -67,21 +67,22 @@ impl<'a> Scan<'a> {
 
     /// Fetches elements, and goes to the first of them: a scan at an index carries the element there. Where none are left it is the none that ends the
     /// scan.
-    pub(super) fn fetch(&mut self) -> Option<i64> {
+    #[cold]
+    pub(super) fn fetched(mut self) -> (Option<i64>, Scan<'a>) {
         let (column, scan, index) = (self.column, self.stands, self.upcoming());
         let most = Ahead::places(column.starts().len());
         let places = raw::places(self.left()).clamp(1, most);
         let ran = self.ahead.fill(places, |out| nexts(column, scan, out));
         let Some(value) = self.ahead.take() else {
             self.stands = ran.scan;
-            return None;
+            return (None, self);
         };
         self.stands = raw::Scan {
             index,
             value,
             ..ran.scan
         };
-        Some(value)
+        (Some(value), self)
     }
 }
 
