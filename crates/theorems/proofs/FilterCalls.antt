@@ -59,7 +59,7 @@ settle-accepted f up m = either (accepts up (m .said)) (λ t. rw t (answers (m .
     answers (Gives v) t = refl
     answers (Number n) t = t
 
-step-accepted : (q : Sequence) (k : Call) (f : Filter) (t : FilterState) → accepted (stepFrom q k f t .said) ≡ true
+pub step-accepted : (q : Sequence) (k : Call) (f : Filter) (t : FilterState) → accepted (stepFrom q k f t .said) ≡ true
 unfolding stepFrom
 step-accepted q k f Before = settle-accepted f (upperOf f k) _
 step-accepted q k f (Within up) = settle-accepted f up _

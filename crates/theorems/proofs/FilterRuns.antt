@@ -202,7 +202,7 @@ module _ (q : Sequence) (s e : ℕ) (rise : rises q s e ≡ true) where
         low : (k : ℕ) → s ≤ k → k < j → ltZ x (q .at k) ≡ false
         low k a b = lt-not (q .at k) x (not-false (ltZ (q .at k) x) (g .before k a b))
 
-  arrive-at : (t : BoundaryType) (x : ℤ) → leadFrom q (leadTo (To (record { boundary = t; value = x }))) (fresh s e)
+  pub arrive-at : (t : BoundaryType) (x : ℤ) → leadFrom q (leadTo (To (record { boundary = t; value = x }))) (fresh s e)
       ≡ goTo q (fresh s e) (firstFrom (λ i. meetsLower (q .at i) (record { boundary = t; value = x })) s e)
   unfolding leadFrom seekFrom meetsLower
   arrive-at Inclusive x = refl

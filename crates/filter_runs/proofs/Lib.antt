@@ -1,0 +1,5 @@
+pub mod Tests
+pub mod Passing
+pub mod GoingOn
+pub mod NextCases
+pub mod OnCases
