@@ -127,7 +127,13 @@ fn moved_on(filter: Filter, scan: Scan, state: FilterState) -> Filter
 }
 
 // As many nexts as the output has places, the first of which gave the element on which the filter stands.
-fn nexts_on(filter: Filter, starts: &[i64], ends: &[u64], steps: &[i16], out: &mut [i64]) -> FilterRan
+fn nexts_on(
+    filter: Filter,
+    starts: &[i64],
+    ends: &[u64],
+    steps: &[i16],
+    out: &mut [i64],
+) -> FilterRan
     requires { ⌜ Stands (columnNow starts ends steps) filter ⌝ }
     ensures { λ r. ⌜ filterTallyOf r ≡ filterCounted (nextsOn (sequence starts ends steps) (length (now (out .entry))) filter) ⌝ }
     ensures { λ _. ⌜ now (out .exit) ≡ filledBy (nextsIn (sequence starts ends steps) (length (now (out .entry))) filter) (now (out .entry)) ⌝ }

@@ -53,10 +53,9 @@ returns c =
     let at-start = at-pass .before in
     let at-limit = at-start .before in
     let s = at-limit .before .before .before in
-    let n = at-counted .counted2 .given .0 .0 in
-    (
+    let n = at-counted .counted2 .given .0 .0 in (
       ap (λ (g : Filter). record { filter = g; said = Gives n }) (c .moved-on .ensures)
-      ∙ on-short (col s) (s .args .filter) (s .pre) (s .args .out .now) (at-limit .limit-of .result) (at-start .stands-at .result) (at-stop .stands-at2 .result) (at-pass .pass .result)
+          ∙ on-short (col s) (s .args .filter) (s .pre) (s .args .out .now) (at-limit .limit-of .result) (at-start .stands-at .result) (at-stop .stands-at2 .result) (at-pass .pass .result)
           (at-limit .limit-of .ensures) (at-start .stands-at .ensures) (at-pass .pass .ensures) (at-stop .stands-at2 .ensures)
           (tallyOf (at-run .next-run .result)) (at-run .next-run .ensures .0) n (ap saysCounted (at-counted .counted2 .given .1)) (c .before .if1 .taken),
       on-out (col s) (s .args .filter) (s .pre) (s .args .out .now) (at-limit .limit-of .result) (at-start .stands-at .result) (at-stop .stands-at2 .result) (at-pass .pass .result)
@@ -96,10 +95,9 @@ returns-3 c =
     let at-start = at-pass .before in
     let at-limit = at-start .before in
     let s = at-limit .before .before .before in
-    let n = at-counted .counted2 .given .0 .0 in
-    (
+    let n = at-counted .counted2 .given .0 .0 in (
       ap (λ (g : Filter). record { filter = g; said = Gives n }) (c .moved-on2 .ensures)
-      ∙ on-full (col s) (s .args .filter) (s .pre) (s .args .out .now) (at-limit .limit-of .result) (at-start .stands-at .result) (at-stop .stands-at2 .result) (at-pass .pass .result)
+          ∙ on-full (col s) (s .args .filter) (s .pre) (s .args .out .now) (at-limit .limit-of .result) (at-start .stands-at .result) (at-stop .stands-at2 .result) (at-pass .pass .result)
           (at-limit .limit-of .ensures) (at-start .stands-at .ensures) (at-pass .pass .ensures) (at-stop .stands-at2 .ensures)
           (tallyOf (at-run .next-run .result)) (at-run .next-run .ensures .0) n (ap saysCounted (at-counted .counted2 .given .1)) (c .before .if1 .left),
       on-out (col s) (s .args .filter) (s .pre) (s .args .out .now) (at-limit .limit-of .result) (at-start .stands-at .result) (at-stop .stands-at2 .result) (at-pass .pass .result)
