@@ -1,5 +1,5 @@
--- A run of calls in one call: what `next_run` and `seek_run` do, as the single calls one after the other, and where a run of seeks begins.
--- Assumes nothing.
+-- A run of calls in one call: what `next_run` and `seek_run` do, as the single calls one after the other, and where a run of seeks begins. The
+-- sentences quoted are those of docs/PROMISES.md, "A run of calls in one call". Assumes nothing.
 use Prim.Native.Nat.{ℕ, zero, suc, _-_}
 use mathlib.Core.Bool.{Bool, cond}
 use mathlib.Core.List.{List, [], _∷_, map}

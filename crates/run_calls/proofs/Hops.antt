@@ -18,7 +18,7 @@ use Rattle.keys.proofs.Widths.{apart, product-le, mag-product}
 use Rattle.meaning.specs.Column.{offset}
 use Rattle.meaning.proofs.Elements.{offset-next}
 use Rattle.meaning.proofs.Crossing.{past-start, few-steps, below-target, at-target}
-use Rattle.run_calls.specs.Landing.{Hop, Hopped}
+use Rattle.run_calls.specs.Inner.{Hop, Hopped}
 
 -- a step times an offset is an i64
 pub product-fits : (d : ℤ) (k : ℕ) → mag d < 32768 → k < 4294967296 → mag (d *ℤ pos k) < half64

@@ -19,7 +19,7 @@ use Rattle.meaning.specs.Column.{offset}
 use Rattle.meaning.specs.Parts.{joined, each}
 use Rattle.meaning.proofs.Elements.{oneRun, offset-zero}
 use Rattle.meaning.proofs.Parts.{each-length, each-at, each-is, each-more, each-filled}
-use Rattle.run_calls.specs.Landing.{landed, landings, reached, Strip, Hop, Hopped}
+use Rattle.run_calls.specs.Inner.{landed, landings, reached, Strip, Hop, Hopped}
 
 -- ---- lists by index
 

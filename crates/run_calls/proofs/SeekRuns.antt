@@ -29,7 +29,7 @@ use Rattle.loftsplice.specs.Scan.{put, standing}
 use Rattle.loftsplice.specs.Running.{Run, Tally, still, runFrom, seeksFrom, counted, refuseRun, seekRunOf, footingAt, footingOf}
 use Rattle.loftsplice.proofs.ScanCases.{end-in, rest-rises, scanTests, orderTest, Passed, clear-passed}
 use Rattle.loftsplice.proofs.RunCases.{run-more, run-none}
-use Rattle.run_calls.specs.Landing.{landed, landings, Begun, roomFor}
+use Rattle.run_calls.specs.Inner.{landed, landings, Begun, roomFor}
 use Rattle.run_calls.proofs.Landings.{Before, answer-in}
 use Rattle.run_calls.proofs.Footings.{none-past, stands}
 

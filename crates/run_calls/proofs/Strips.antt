@@ -20,7 +20,7 @@ use Rattle.meaning.proofs.Runs.{before-is, climb, end-le-before, run-in, run-th
 use Rattle.meaning.proofs.Soundness.{Sound}
 use Rattle.meaning.proofs.Rise.{rises-at, later-above, before-below, at-in, at-first, step-in}
 use Rattle.meaning.proofs.Elements.{offset-on}
-use Rattle.run_calls.specs.Landing.{Strip}
+use Rattle.run_calls.specs.Inner.{Strip}
 use Rattle.run_calls.proofs.Landings.{first-skip}
 
 module _ (c : Column) (end from : ℕ) where

@@ -22,7 +22,7 @@ use Rattle.meaning.proofs.Soundness.{Sound}
 use Rattle.meaning.proofs.Elements.{oneRun}
 use Rattle.meaning.proofs.Parts.{each-length}
 use Rattle.meaning.proofs.Paste.{front-length, rest-back}
-use Rattle.run_calls.specs.Landing.{landed, landings, reached}
+use Rattle.run_calls.specs.Inner.{landed, landings, reached}
 use Rattle.run_calls.proofs.Landings.{each-join, each-same, reached-known, landed-none, landed-on, landed-same, strip-lands}
 use Rattle.run_calls.proofs.Strips.{Entered, strip-at, after, last-there, later-run, later, there, skipped, enters}
 

@@ -1,1 +1,1 @@
-pub mod Landing
+pub mod Inner

@@ -12,7 +12,7 @@ ghost use Rattle.meaning.specs.Contracts.{columnNow, sequence, source};
 ghost use Rattle.meaning.proofs.Elements.{oneRun};
 ghost use Rattle.loftsplice.specs.Scan.{standing};
 ghost use Rattle.loftsplice.specs.Running.{seeksFrom, tallyOf, seekRunOf, seekRunOut};
-ghost use Rattle.run_calls.specs.Landing.{landed, writtenBy, reached, Strip, Hop, Hopped, Begun, outOf, roomFor};
+ghost use Rattle.run_calls.specs.Inner.{landed, writtenBy, reached, Strip, Hop, Hopped, Begun, outOf, roomFor};
 use keys::bias;
 use keys::size16;
 use loftsplice::running::Counted;

@@ -14,7 +14,7 @@ use Rattle.keys.specs.Widths.{half64}
 use Rattle.keys.proofs.Bits.{back}
 use Rattle.meaning.specs.Column.{offset}
 use Rattle.meaning.proofs.Crossing.{size-up}
-use Rattle.run_calls.specs.Landing.{Hop}
+use Rattle.run_calls.specs.Inner.{Hop}
 use Rattle.run_calls.proofs.Hops.{product-fits, quotient-same, stays, up, next-fits, goes-next, keys-rise, short, fits, goes-far}
 use borrow.Author.Needs.{needs}
 use Rattle.run_calls.proofs.hop.Statement.{statement}

@@ -11,7 +11,7 @@ use Rattle.keys.proofs.Bits.{back}
 use Rattle.meaning.specs.Contracts.{columnNow}
 use Rattle.meaning.specs.Sequence.{Sequence}
 use Rattle.meaning.specs.Column.{Column, sequenceOf}
-use Rattle.run_calls.specs.Landing.{reached}
+use Rattle.run_calls.specs.Inner.{reached}
 use Rattle.run_calls.proofs.Landings.{Before, reached-known}
 use Rattle.run_calls.proofs.Footings.{Stands, stands}
 use Rattle.run_calls.proofs.SeekRuns.{Answered, seeks-answered, given-none, given-room, given-cut, given-all}
