@@ -3,3 +3,4 @@ pub mod Passing
 pub mod GoingOn
 pub mod NextCases
 pub mod OnCases
+pub mod Theorems

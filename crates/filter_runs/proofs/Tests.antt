@@ -11,7 +11,7 @@ use Rattle.meaning.specs.declared.Refusal.the-variants.{Bounds as OverBounds, I
 use Rattle.meaning.specs.Refusals.{Said, Gives, Number, numberOf, Trial, tried, judged}
 use Rattle.meaning.specs.Sequence.{Sequence, Source, rises}
 use Rattle.meaning.specs.Column.{Column, sequenceOf, sourceOf}
-use Rattle.meaning.proofs.Judging.{trial, Clear, none-given, passes-sound}
+use Rattle.meaning.proofs.Judging.{trial, Clear, clear-tried, none-given, passes-sound}
 use Rattle.meaning.proofs.Rise.{rises-later}
 use Rattle.loftsplice.specs.declared.scan.State.{State}
 use Rattle.loftsplice.specs.declared.scan.State.the-variants.{Fresh, At, Ended}
@@ -93,6 +93,10 @@ module _ (p : Source) (l : Lists) (f : Filter) where
     -- and goes on where that is accepted
     pub clear-alike : accepted (callOf p k f .said) ≡ true → Clear filterTests
     clear-alike ok = accepted-clear f (stepFrom (p .sequence) k f (f .state)) filterTests (sym (ap (λ (o : Sifting). accepted (o .said)) tested) ∙ ok)
+
+    pub call-clear : Clear filterTests → callOf p k f ≡ stepFrom (p .sequence) k f (f .state)
+    unfolding tried
+    call-clear t = tested ∙ sym (clear-tried (refuseCall f) filterTests [] (stepFrom (p .sequence) k f (f .state)) t)
 
     call-passed : accepted (callOf p k f .said) ≡ true → Passed p (f .scan)
     call-passed ok = clear-passed p (f .scan) ownTests (clear-alike ok)

@@ -1,7 +1,7 @@
 -- A run of calls on a filter in one call: what `next_run` and `seek_run` do, as the single calls one after the other. Assumes nothing.
 use Prim.Native.Nat.{ℕ}
-use mathlib.Core.Bool.{Bool}
-use mathlib.Core.List.{List, [], _∷_, map}
+use mathlib.Core.Bool.{Bool, cond}
+use mathlib.Core.List.{List, [], _∷_, _++_, map}
 use mathlib.Core.Option.{Option, some, none}
 use lib.Dec.{ltb}
 use lib.IntN.{ℤ}
@@ -18,7 +18,7 @@ use Rattle.loftsplice.specs.declared.scan.Move.the-variants.{Next, Seek}
 use Rattle.loftsplice.specs.Lead.{onLead}
 use Rattle.loftsplice.specs.Running.{nexts, saysCounted}
 use Rattle.filter_interval.specs.declared.Filter.{Filter}
-use Rattle.filter_interval.specs.Filter.{Call, handing, stepFrom, tooMany, unread}
+use Rattle.filter_interval.specs.Filter.{Call, handing, stepFrom, tooMany, unread, callOf}
 use Rattle.filter_runs.specs.declared.FilterRan.{FilterRan}
 
 -- ---- a run of calls
@@ -101,3 +101,14 @@ filterNextRunOut p l old f = after (filterNextRunOf p l (length old) f .said) (f
 
 abbrev pub filterSeekRunOut : Source → Lists → List ℤ → List ℤ → Filter → List ℤ
 filterSeekRunOut p l targets old f = after (filterSeekRunOf p l targets (length old) f .said) (filterSeeksFrom (p .sequence) l targets f .values) old
+
+-- ---- beside it, for the theorems
+
+-- the single calls as they are made, each with its own refusals, up to the first that gives no value
+unfoldable pub singly : Source → List Call → Filter → FilterRun
+singly p [] f = filterStill f
+singly p (k ∷ ks) f = let o = callOf p k f in filterOnward (o .said) (o .filter) (singly p ks (o .filter))
+
+-- a run of n calls, and then others from the filter that it leaves, unless it stopped at a none
+abbrev pub cutAt : Sequence → List Call → ℕ → FilterRun → FilterRun
+cutAt q js n r = let more = filterRunFrom q js (r .filter) in cond (ltb (length (r .values)) n) r (record { filter = more .filter; values = r .values ++ more .values })
