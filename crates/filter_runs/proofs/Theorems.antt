@@ -41,9 +41,19 @@ module _ (p : Source) (l : Lists) where
 
   -- what an accepted call leaves passes the tests of the next
   stays-clear : (f : Filter) (m : Move) → Clear (filterTests p l f) → Clear (filterTests p l (stepFrom q (asking l m) f (f .state) .filter))
-  stays-clear f m t =
-      (t .0, (t .1 .0, (t .1 .1 .0, (restricted-bad q (g .scan) (b .scan) ∙ le-ltb (q .size) (f .scan .end) (end-in q (f .scan) bad),
-      (t .1 .1 .1 .1 .0, (rw (b .scan .same-start, b .scan .same-end) (t .1 .1 .1 .1 .1 .0), (b .reads-none (asking l Next), tt)))))))
+  stays-clear f m t = (
+    t .0,
+    (
+      t .1 .0,
+      (
+        t .1 .1 .0,
+        (
+          restricted-bad q (g .scan) (b .scan) ∙ le-ltb (q .size) (f .scan .end) (end-in q (f .scan) bad),
+          (t .1 .1 .1 .1 .0, (rw (b .scan .same-start, b .scan .same-end) (t .1 .1 .1 .1 .1 .0), (b .reads-none (asking l Next), tt))),
+        ),
+      ),
+    ),
+  )
     where
       bad : badScan q (f .scan) ≡ false
       bad = t .1 .1 .1 .0
