@@ -18,5 +18,5 @@ unfoldable pub callRun : FlatScan → (Scan → Tally) → FlatRan
 callRun s call = flatRan s (cond (goodScan s) (call (scanOf s)) (refuseRun (scanOf s) form))
 
 -- what is left in the output: after FORM what it held, else what the run leaves
-unfoldable pub leftBy : FlatScan → (Scan → List ℤ) → List ℤ → List ℤ
-leftBy s run old = cond (goodScan s) (run (scanOf s)) old
+unfoldable pub outLeft : FlatScan → (Scan → List ℤ) → List ℤ → List ℤ
+outLeft s run old = cond (goodScan s) (run (scanOf s)) old

@@ -5,7 +5,7 @@ ghost use Rattle.meaning.specs.Contracts.{source};
 ghost use Rattle.loftsplice.specs.Running.{tallyOf, refuseRun, nextRunOf, nextRunOut, seekRunOf, seekRunOut};
 ghost use Rattle.c_forms.specs.Flat.{form};
 ghost use Rattle.c_forms.specs.Scan.{scanOf};
-ghost use Rattle.c_runs.specs.Runs.{flatRan, callRun, leftBy};
+ghost use Rattle.c_runs.specs.Runs.{flatRan, callRun, outLeft};
 use c_forms::scans::FlatScan;
 use c_forms::scans::flat_scan;
 use c_forms::scans::is_scan;
@@ -65,7 +65,7 @@ pub extern "C" fn loftsplice_scan_next_run(
     out: &mut [i64],
 ) -> FlatRan
     ensures { λ r. ⌜ r ≡ callRun scan (nextRunOf (source starts ends steps) (length (now (out .entry)))) ⌝ }
-    ensures { λ _. ⌜ now (out .exit) ≡ leftBy scan (nextRunOut (source starts ends steps) (now (out .entry))) (now (out .entry)) ⌝ }
+    ensures { λ _. ⌜ now (out .exit) ≡ outLeft scan (nextRunOut (source starts ends steps) (now (out .entry))) (now (out .entry)) ⌝ }
 {
     if is_scan(scan) {
         let ran = next_run(scan_of(scan), starts, ends, steps, out);
@@ -86,7 +86,7 @@ pub extern "C" fn loftsplice_scan_seek_run(
     out: &mut [i64],
 ) -> FlatRan
     ensures { λ r. ⌜ r ≡ callRun scan (seekRunOf (source starts ends steps) (now (targets .entry)) (length (now (out .entry)))) ⌝ }
-    ensures { λ _. ⌜ now (out .exit) ≡ leftBy scan (seekRunOut (source starts ends steps) (now (targets .entry)) (now (out .entry))) (now (out .entry)) ⌝ }
+    ensures { λ _. ⌜ now (out .exit) ≡ outLeft scan (seekRunOut (source starts ends steps) (now (targets .entry)) (now (out .entry))) (now (out .entry)) ⌝ }
 {
     if is_scan(scan) {
         let ran = seek_run(scan_of(scan), starts, ends, steps, targets, out);

@@ -29,7 +29,7 @@ use Rattle.theorems.specs.Exact.{accepted}
 use Rattle.theorems.proofs.Moves.{unmoved, restricted-bad}
 use Rattle.theorems.proofs.AcceptedRuns.{Begun, step-begun}
 use Rattle.filter_runs.specs.declared.FilterRan.{FilterRan}
-use Rattle.filter_runs.specs.Runs.{FilterRun, FilterTally, Lists, filterOnward, filterRunFrom, asking, filterNextsFrom, filterTallyOf, filterCounted, refuseFilterRun, filterNextRunOf, filterNextRunOut, singly, cutAt}
+use Rattle.filter_runs.specs.Runs.{FilterRun, FilterTally, Lists, filterOnward, filterRunFrom, asking, filterNextsFrom, filterTallyOf, filterCounted, refuseFilterRun, filterNextRunOf, filterNextRunOut, singly, andThen}
 use Rattle.filter_runs.proofs.Tests.{filterTests, refused-alike, clear-alike, call-clear}
 use Rattle.filter_runs.proofs.GoingOn.{then}
 
@@ -121,18 +121,18 @@ next-run-one p l n f = one-result filterTallyOf ran-apart
 -- ---- a run cut in two
 
 module _ (q : Sequence) (js : List Call) where
-  cut-then : (n : ℕ) (v : ℤ) (r : FilterRun) → cutAt q js (suc n) (then v r) ≡ then v (cutAt q js n r)
+  cut-then : (n : ℕ) (v : ℤ) (r : FilterRun) → andThen q js (suc n) (then v r) ≡ then v (andThen q js n r)
   cut-then n v r =
       let e : ltb (suc (length (r .values))) (suc n) ≡ ltb (length (r .values)) n = same-ltb (suc (length (r .values))) (suc n) (length (r .values)) n (λ g. omega arith) (λ g. omega arith) in
       either (ltb (length (r .values)) n) (λ t. rw (e, t)) (λ t. rw (e, t))
 
-  cut-step : (n : ℕ) (x : Said (Option ℤ)) (g : Filter) (whole r : FilterRun) → whole ≡ cutAt q js n r → filterOnward x g whole ≡ cutAt q js (suc n) (filterOnward x g r)
+  cut-step : (n : ℕ) (x : Said (Option ℤ)) (g : Filter) (whole r : FilterRun) → whole ≡ andThen q js n r → filterOnward x g whole ≡ andThen q js (suc n) (filterOnward x g r)
   cut-step n (Gives (some v)) g whole r e = ap (then v) e ∙ sym (cut-then n v r)
   cut-step n (Gives none) g whole r e = rw (lt-ltb 0 (suc n) (omega arith))
   cut-step n (Number k) g whole r e = rw (lt-ltb 0 (suc n) (omega arith))
 
   -- is the run: the second part goes on from the filter that the first leaves, unless that stopped at a none
-  pub run-cut : (ks : List Call) (f : Filter) → filterRunFrom q (ks ++ js) f ≡ cutAt q js (length ks) (filterRunFrom q ks f)
+  pub run-cut : (ks : List Call) (f : Filter) → filterRunFrom q (ks ++ js) f ≡ andThen q js (length ks) (filterRunFrom q ks f)
   unfolding filterRunFrom
   run-cut [] f = refl
   run-cut (k ∷ ks) f = let o : Sifting = stepFrom q k f (f .state) in cut-step (length ks) (o .said) (o .filter) _ (filterRunFrom q ks (o .filter)) (run-cut ks (o .filter))

@@ -110,5 +110,5 @@ singly p [] f = filterStill f
 singly p (k ∷ ks) f = let o = callOf p k f in filterOnward (o .said) (o .filter) (singly p ks (o .filter))
 
 -- a run of n calls, and then others from the filter that it leaves, unless it stopped at a none
-abbrev pub cutAt : Sequence → List Call → ℕ → FilterRun → FilterRun
-cutAt q js n r = let more = filterRunFrom q js (r .filter) in cond (ltb (length (r .values)) n) r (record { filter = more .filter; values = r .values ++ more .values })
+abbrev pub andThen : Sequence → List Call → ℕ → FilterRun → FilterRun
+andThen q js n r = let more = filterRunFrom q js (r .filter) in cond (ltb (length (r .values)) n) r (record { filter = more .filter; values = r .values ++ more .values })
