@@ -19,7 +19,7 @@ use Rattle.bounds.specs.declared.Limit.{Limit}
 use Rattle.bounds.specs.Bounds.{within}
 use Rattle.loftsplice.specs.declared.scan.Move.the-variants.{Seek}
 use Rattle.loftsplice.specs.declared.scan.Scan.{Scan}
-use Rattle.loftsplice.specs.Scan.{Outcome, fresh, seekFrom, badScan}
+use Rattle.loftsplice.specs.Scan.{standing, Outcome, fresh, seekFrom, badScan}
 use Rattle.loftsplice.specs.Lead.{leadFrom}
 use Rattle.loftsplice.proofs.ScanCases.{rest-rises}
 use Rattle.filter_interval.specs.declared.FilterState.{FilterState}
@@ -28,7 +28,7 @@ use Rattle.filter_interval.specs.declared.Filter.{Filter}
 use Rattle.filter_interval.specs.Filter.{Sifting, Call, become, accepts, settle, stepFrom, tooMany, unread, callOf, newFilter, answersOf}
 use Rattle.theorems.specs.Exact.{accepted, soundSource}
 use Rattle.theorems.specs.Demand3.{moves}
-use Rattle.theorems.specs.Runs.{isNone, letThrough, standsIn, risingWindow}
+use Rattle.theorems.specs.Runs.{isNone, letThrough, risingWindow}
 use Rattle.theorems.specs.Audit.{ascendingFrom, ascending, constant}
 use Rattle.theorems.specs.Cuts.{askThen}
 use Rattle.theorems.proofs.FilterCalls.{call-accepts, call-does, call-keeps}
@@ -73,15 +73,15 @@ module _ (q : Sequence) (s : Scan) (x y : ℤ) (later : ltZ y x ≡ false) (good
   stays-beyond : accepts up (sought x .said) ≡ false → accepts up (sought y .said) ≡ false
   stays-beyond out = second (seek-lands q y s (s .state))
     where
-      by-first : (g : Found q y s (standsIn s (s .state)) (sought y)) → within up (q .at (g .index)) ≡ true → Landing q x s (standsIn s (s .state)) (sought x) → accepts up (sought x .said) ≡ true
+      by-first : (g : Found q y s (standing s (s .state)) (sought y)) → within up (q .at (g .index)) ≡ true → Landing q x s (standing s (s .state)) (sought x) → accepts up (sought x .said) ≡ true
       by-first g w (inl h) =
           let near : h .index ≤ g .index = ⊎-elim
           (λ (l : g .index < h .index). clash (lt-le (q .at (g .index)) x y (h .first (g .index) (g .from) l) later) (g .enough))
           (λ (l : h .index ≤ g .index). l) (lt-or-ge (g .index) (h .index)) in
-          rw (h .arrives) (within-back q (standsIn s (s .state)) (s .end) (rest-rises q s good rise) up (h .index) (g .index) (h .from) near (g .inside) w)
+          rw (h .arrives) (within-back q (standing s (s .state)) (s .end) (rest-rises q s good rise) up (h .index) (g .index) (h .from) near (g .inside) w)
       by-first g w (inr h) = clash (lt-le (q .at (g .index)) x y (h .below (g .index) (g .from) (g .inside)) later) (g .enough)
 
-      second : Landing q y s (standsIn s (s .state)) (sought y) → accepts up (sought y .said) ≡ false
+      second : Landing q y s (standing s (s .state)) (sought y) → accepts up (sought y .said) ≡ false
       second (inl g) = rw (g .arrives) (either (within up (q .at (g .index))) (λ w. clash (by-first g w (seek-lands q x s (s .state))) out) (λ w. w))
       second (inr g) = rw (g .ends)
 
