@@ -3,4 +3,7 @@ pub mod Passing
 pub mod GoingOn
 pub mod NextCases
 pub mod OnCases
+pub mod SeeksAre
+pub mod SeeksOn
+pub mod SeekCases
 pub mod Theorems

@@ -48,7 +48,7 @@ module _ (c : Column) (f : Filter) (s : Stands c f) where
   pub pass-asks : (start : ℕ) → start ≡ from f → (sound c ≡ true) × (((start ≤ end) × (end ≤ sizeOf c)) × (rises q start end ≡ true))
   pass-asks start e = let z : start ≡ s .index = e ∙ is-from c f s in (s .whole, ((omega (arith, s .below), s .fit), rw z (s .rising)))
 
-  upto-below : upto q f ≤ end
+  pub upto-below : upto q f ≤ end
   upto-below = rw (is-upto c f s) (upto-in c f s)
 
   -- what it gives, and the part of the window that is before it
@@ -57,10 +57,10 @@ module _ (c : Column) (f : Filter) (s : Stands c f) where
     abbrev r : Run
     r = nextsIn q (length d) f
 
-    over-is : over ≡ goTo q (fresh (from f) end) (upto q f) .scan
+    pub over-is : over ≡ goTo q (fresh (from f) end) (upto q f) .scan
     over-is = io ∙ ap (λ i. goTo q (fresh i end) (beyond q up i end) .scan) is ∙ ap (λ (u : Limit). goTo q (fresh (from f) end) (beyond q u (from f) end) .scan) iu
 
-    stop-is : stop ≡ upto q f
+    pub stop-is : stop ≡ upto q f
     stop-is = ie ∙ ap (λ (o : Scan). standing o (o .state)) over-is ∙ stands-to q (from f) end (upto q f) upto-below
 
     runs : nextRunOf (sourceOf c) (length d) (fresh start stop) ≡ counted r

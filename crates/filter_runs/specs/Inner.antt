@@ -3,10 +3,14 @@
 use Prim.Native.Nat.{ℕ, _≤_, _<_}
 use mathlib.Core.Path.{_≡_}
 use mathlib.Core.Bool.{true, cond, not}
+use mathlib.Core.List.{List}
 use lib.Dec.{ltb}
-use lib.ListN.{length}
+use lib.IntN.{ℤ, pos}
+use lib.ListN.{length, getD}
 use Rattle.ranges.specs.Ranges.{firstFrom}
-use Rattle.meaning.specs.Sequence.{Sequence, rises}
+use Rattle.meaning.specs.declared.Refusal.the-variants.{Room}
+use Rattle.meaning.specs.Refusals.{numberOf}
+use Rattle.meaning.specs.Sequence.{Sequence, rises, firstNotBelow}
 use Rattle.meaning.specs.Column.{Column, sizeOf, sequenceOf, sound}
 use Rattle.bounds.specs.declared.BoundaryType.the-variants.{Inclusive, Exclusive}
 use Rattle.bounds.specs.declared.Bound.{Bound}
@@ -16,12 +20,12 @@ use Rattle.bounds.specs.Bounds.{isExclusive, within}
 use Rattle.loftsplice.specs.declared.scan.State.the-variants.{At}
 use Rattle.loftsplice.specs.declared.scan.Scan.{Scan}
 use Rattle.loftsplice.specs.Scan.{fresh, put, standing, goTo}
-use Rattle.loftsplice.specs.Running.{Run, nextsFrom}
+use Rattle.loftsplice.specs.Running.{Run, nextsFrom, seeksFrom}
 use Rattle.filter_interval.specs.declared.FilterState.{FilterState}
 use Rattle.filter_interval.specs.declared.FilterState.the-variants.{Before, Within, After}
 use Rattle.filter_interval.specs.declared.Filter.{Filter}
 use Rattle.filter_interval.specs.Filter.{become}
-use Rattle.filter_runs.specs.Runs.{FilterRun}
+use Rattle.filter_runs.specs.Runs.{FilterRun, FilterTally, filterCounted, refuseFilterRun}
 
 -- the lower bound that is met exactly where an upper one is not
 abbrev pub turned : Bound → Bound
@@ -73,3 +77,17 @@ nextsIn q n f = nextsFrom q n (fresh (from f) (upto q f))
 
 abbrev pub nextsOn : Sequence → ℕ → Filter → FilterRun
 nextsOn q n f = goesOn f (kept (f .state)) n (nextsIn q n f) (goTo q (fresh (from f) (f .scan .end)) (upto q f) .scan)
+
+-- and seeks from there on
+abbrev pub seeksIn : Sequence → List ℤ → Filter → Run
+seeksIn q xs f = seeksFrom q xs (put q (fresh (from f) (upto q f)) (At (from f)))
+
+abbrev pub seeksOn : Sequence → List ℤ → Filter → FilterRun
+seeksOn q xs f =
+    let r = seeksIn q xs f in
+    let end = f .scan .end in
+    goesOn f (kept (f .state)) (length xs) r (goTo q (fresh (from f) end) (firstNotBelow q (getD xs (length (r .values)) (pos 0)) (from f) end) .scan)
+
+-- 10 alone
+abbrev pub filterRoomFor : ℕ → Filter → FilterRun → FilterTally
+filterRoomFor places f r = cond (ltb places (length (r .values))) (refuseFilterRun f (numberOf Room)) (filterCounted r)

@@ -3,6 +3,8 @@ use Prim.Native.Nat.{ℕ}
 use mathlib.Core.Bool.{Bool, cond}
 use mathlib.Core.List.{List, [], _∷_, _++_, map}
 use mathlib.Core.Option.{Option, some, none}
+use denote.Triple.Both.{Both}
+use denote.Ref.{RefT}
 use lib.Dec.{ltb}
 use lib.IntN.{ℤ}
 use lib.ListN.{length}
@@ -101,6 +103,14 @@ filterNextRunOut p l old f = after (filterNextRunOf p l (length old) f .said) (f
 
 abbrev pub filterSeekRunOut : Source → Lists → List ℤ → List ℤ → Filter → List ℤ
 filterSeekRunOut p l targets old f = after (filterSeekRunOf p l targets (length old) f .said) (filterSeeksFrom (p .sequence) l targets f .values) old
+
+-- as a contract names these, of lent targets and a lent output
+module _ {A B : Type 0} (targets : Both (RefT (List ℤ)) A) (out : Both (RefT (List ℤ)) B) (p : Source) (l : Lists) (f : Filter) where
+  abbrev pub seekRunAt : FilterTally
+  seekRunAt = filterSeekRunOf p l (targets .entry .now) (length (out .entry .now)) f
+
+  abbrev pub seekOutAt : List ℤ
+  seekOutAt = filterSeekRunOut p l (targets .entry .now) (out .entry .now) f
 
 -- ---- beside it, for the theorems
 

@@ -13,6 +13,8 @@ ghost use Rattle.loftsplice.specs.Inner.{filledBy};
 ghost use Rattle.filter_interval.specs.Filter.{become, leadTo};
 ghost use Rattle.filter_runs.specs.Runs.{lists, filterTallyOf, filterCounted, filterNextRunOf, filterNextRunOut};
 ghost use Rattle.filter_runs.specs.Inner.{turned, beyond, widened, kept, Stands, nextsIn, nextsOn};
+pub mod seeks;
+
 use bounds::Bound;
 use bounds::Inputs;
 use bounds::Limit;
@@ -49,7 +51,7 @@ fn lead_out(bound: Bound) -> Lead
 }
 
 // Where a window's elements from an index on no longer meet a limit: a scan that stands on the first that does not, or has ended.
-fn pass(starts: &[i64], ends: &[u64], steps: &[i16], start: u64, end: u64, up: Limit) -> Scan
+pub(crate) fn pass(starts: &[i64], ends: &[u64], steps: &[i16], start: u64, end: u64, up: Limit) -> Scan
     requires { ⌜ sound (columnNow starts ends steps) ≡ true ⌝ }
     requires { ⌜ (start ≤ end) × (end ≤ sizeOf (columnNow starts ends steps)) ⌝ }
     requires { ⌜ rises (sequenceOf (columnNow starts ends steps)) start end ≡ true ⌝ }
@@ -76,7 +78,7 @@ fn pass(starts: &[i64], ends: &[u64], steps: &[i16], start: u64, end: u64, up: L
 }
 
 // Where a scan stands: at an index, before its window's first, or past its last.
-fn stands_at(scan: Scan) -> u64
+pub(crate) fn stands_at(scan: Scan) -> u64
     ensures { λ r. ⌜ r ≡ standing scan (scan .state) ⌝ }
 {
     let start = scan.start;
@@ -90,7 +92,7 @@ fn stands_at(scan: Scan) -> u64
 }
 
 // The limit that a filter keeps.
-fn limit_of(state: FilterState) -> Limit
+pub(crate) fn limit_of(state: FilterState) -> Limit
     ensures { λ r. ⌜ r ≡ kept state ⌝ }
 {
     match state {
@@ -101,7 +103,7 @@ fn limit_of(state: FilterState) -> Limit
 }
 
 // A filter whose scan was moved in a part of its window.
-fn moved_on(filter: Filter, scan: Scan, state: FilterState) -> Filter
+pub(crate) fn moved_on(filter: Filter, scan: Scan, state: FilterState) -> Filter
     ensures { λ r. ⌜ r ≡ become filter (widened (filter .scan) scan) state ⌝ }
 {
     let whole = filter.scan;
