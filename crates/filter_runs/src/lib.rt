@@ -13,6 +13,7 @@ ghost use Rattle.loftsplice.specs.Inner.{filledBy};
 ghost use Rattle.filter_interval.specs.Filter.{become, leadTo};
 ghost use Rattle.filter_runs.specs.Runs.{lists, filterTallyOf, filterCounted, filterNextRunOf, filterNextRunOut};
 ghost use Rattle.filter_runs.specs.Inner.{turned, beyond, widened, kept, Stands, nextsIn, nextsOn};
+
 pub mod seeks;
 
 use bounds::Bound;
@@ -51,7 +52,14 @@ fn lead_out(bound: Bound) -> Lead
 }
 
 // Where a window's elements from an index on no longer meet a limit: a scan that stands on the first that does not, or has ended.
-pub(crate) fn pass(starts: &[i64], ends: &[u64], steps: &[i16], start: u64, end: u64, up: Limit) -> Scan
+pub(crate) fn pass(
+    starts: &[i64],
+    ends: &[u64],
+    steps: &[i16],
+    start: u64,
+    end: u64,
+    up: Limit,
+) -> Scan
     requires { ⌜ sound (columnNow starts ends steps) ≡ true ⌝ }
     requires { ⌜ (start ≤ end) × (end ≤ sizeOf (columnNow starts ends steps)) ⌝ }
     requires { ⌜ rises (sequenceOf (columnNow starts ends steps)) start end ≡ true ⌝ }

@@ -121,10 +121,14 @@ add-t38 c =
     let at-left = at-else .before .before in
     let at-first = at-left .before .before in
     let s = at-first .before .before in
-    omega (arith, s .good, seek-few (col s) (handed s) (s .args .filter) (s .args .targets .now) (s .args .out .now) _ (back w64 (at-first .first-of .result) (at-first .first-of .ok) ∙ at-first .first-of .ensures) (at-left .before .seek .result) (at-left .before .seek .ensures)
-    (at-answer .answer2 .given .0 .0) (at-answer .answer2 .given .1) (omega (arith, at-else .if1 .left)) (omega (arith, at-else2 .if2 .left)) _ _ refl refl
-    (filterTallyOf (at-on .seeks-on .result)) (at-on .seeks-on .ensures .0) _ (at-on .seeks-on .ensures .1)
-    (at-counted .counted2 .given .0 .0) (ap saysCounted (at-counted .counted2 .given .1)))
+    omega (
+      arith,
+      s .good,
+      seek-few (col s) (handed s) (s .args .filter) (s .args .targets .now) (s .args .out .now) _ (back w64 (at-first .first-of .result) (at-first .first-of .ok) ∙ at-first .first-of .ensures) (at-left .before .seek .result) (at-left .before .seek .ensures)
+          (at-answer .answer2 .given .0 .0) (at-answer .answer2 .given .1) (omega (arith, at-else .if1 .left)) (omega (arith, at-else2 .if2 .left)) _ _ refl refl
+          (filterTallyOf (at-on .seeks-on .result)) (at-on .seeks-on .ensures .0) _ (at-on .seeks-on .ensures .1)
+          (at-counted .counted2 .given .0 .0) (ap saysCounted (at-counted .counted2 .given .1)),
+    )
 
 same-length : tie.Need-same-length
 same-length c = search needs

@@ -77,10 +77,9 @@ returns c =
     let at-start = at-pass .before in
     let at-limit = at-start .before in
     let s = at-limit .before .before .before in
-    let n = at-counted .counted2 .given .0 .0 in
-    (
+    let n = at-counted .counted2 .given .0 .0 in (
       ap (λ (g : Filter). record { filter = g; said = Gives n }) (c .moved-on .ensures)
-      ∙ seeks-short (col s) (s .args .filter) (s .pre) (s .args .targets .now) (s .args .out .now) (at-limit .limit-of .result) (at-start .stands-at .result) (at-stop .stands-at2 .result) (at-pass .pass .result) (s .args .filter .scan .value)
+          ∙ seeks-short (col s) (s .args .filter) (s .pre) (s .args .targets .now) (s .args .out .now) (at-limit .limit-of .result) (at-start .stands-at .result) (at-stop .stands-at2 .result) (at-pass .pass .result) (s .args .filter .scan .value)
           (at-limit .limit-of .ensures) (at-start .stands-at .ensures) (at-pass .pass .ensures) (at-stop .stands-at2 .ensures) refl
           (tallyOf (at-run .seek-run .result)) (at-run .seek-run .ensures .0) n (ap saysCounted (at-counted .counted2 .given .1)) (at-then .if1 .taken)
           _ (back w64 _ (at-target .target .given)) (outcomeOf (at-seek .seek .result)) (at-seek .seek .ensures),
@@ -104,8 +103,7 @@ returns-2 c =
     let at-pass = at-stop .before in
     let at-start = at-pass .before in
     let at-limit = at-start .before in
-    let s = at-limit .before .before .before in
-    (
+    let s = at-limit .before .before .before in (
       seeks-refused (col s) (s .args .filter) (s .pre) (s .args .targets .now) (s .args .out .now) (at-limit .limit-of .result) (at-start .stands-at .result) (at-stop .stands-at2 .result) (at-pass .pass .result) (s .args .filter .scan .value)
           (at-limit .limit-of .ensures) (at-start .stands-at .ensures) (at-pass .pass .ensures) (at-stop .stands-at2 .ensures) refl
           (tallyOf (at-run .seek-run .result)) (at-run .seek-run .ensures .0) (numberOf (at-counted .counted .given .0 .0)) (ap saysCounted (at-counted .counted .given .1)),
@@ -127,10 +125,9 @@ returns-3 c =
     let at-start = at-pass .before in
     let at-limit = at-start .before in
     let s = at-limit .before .before .before in
-    let n = at-counted .counted2 .given .0 .0 in
-    (
+    let n = at-counted .counted2 .given .0 .0 in (
       ap (λ (g : Filter). record { filter = g; said = Gives n }) (c .moved-on2 .ensures)
-      ∙ seeks-full (col s) (s .args .filter) (s .pre) (s .args .targets .now) (s .args .out .now) (at-limit .limit-of .result) (at-start .stands-at .result) (at-stop .stands-at2 .result) (at-pass .pass .result) (s .args .filter .scan .value)
+          ∙ seeks-full (col s) (s .args .filter) (s .pre) (s .args .targets .now) (s .args .out .now) (at-limit .limit-of .result) (at-start .stands-at .result) (at-stop .stands-at2 .result) (at-pass .pass .result) (s .args .filter .scan .value)
           (at-limit .limit-of .ensures) (at-start .stands-at .ensures) (at-pass .pass .ensures) (at-stop .stands-at2 .ensures) refl
           (tallyOf (at-run .seek-run .result)) (at-run .seek-run .ensures .0) n (ap saysCounted (at-counted .counted2 .given .1)) (c .before .if1 .left),
       seeks-out (col s) (s .args .filter) (s .pre) (s .args .targets .now) (s .args .out .now) (at-limit .limit-of .result) (at-start .stands-at .result) (at-stop .stands-at2 .result) (at-pass .pass .result) (s .args .filter .scan .value)
