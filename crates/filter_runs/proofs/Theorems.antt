@@ -12,12 +12,13 @@ use lib.Dec.{ltb}
 use lib.IntN.{ℤ}
 use lib.ListN.{length}
 use Rattle.ranges.proofs.Bools.{either, same-ltb}
-use Rattle.meaning.specs.Refusals.{Said, Gives, Number, tried}
+use Rattle.meaning.specs.declared.Refusal.the-variants.{Room}
+use Rattle.meaning.specs.Refusals.{Said, Gives, Number, Trial, tried}
 use Rattle.meaning.specs.Sequence.{Sequence, Source}
-use Rattle.meaning.proofs.Judging.{Clear, clear-tried, no-number}
+use Rattle.meaning.proofs.Judging.{trial, Clear, clear-tried, no-number}
 use Rattle.meaning.proofs.Unique.{Injective, one-result, undone, answering, refusal-is}
 use Rattle.loftsplice.specs.declared.scan.Move.{Move}
-use Rattle.loftsplice.specs.declared.scan.Move.the-variants.{Next}
+use Rattle.loftsplice.specs.declared.scan.Move.the-variants.{Next, Seek}
 use Rattle.loftsplice.specs.declared.running.Counted.{Counted}
 use Rattle.loftsplice.specs.declared.running.Counted.the-variants.{Values, Refused}
 use Rattle.loftsplice.specs.Scan.{badScan}
@@ -29,7 +30,8 @@ use Rattle.theorems.specs.Exact.{accepted}
 use Rattle.theorems.proofs.Moves.{unmoved, restricted-bad}
 use Rattle.theorems.proofs.AcceptedRuns.{Begun, step-begun}
 use Rattle.filter_runs.specs.declared.FilterRan.{FilterRan}
-use Rattle.filter_runs.specs.Runs.{FilterRun, FilterTally, Lists, filterOnward, filterRunFrom, asking, filterNextsFrom, filterTallyOf, filterCounted, refuseFilterRun, filterNextRunOf, filterNextRunOut, singly, andThen}
+use Rattle.filter_runs.specs.Runs.{FilterRun, FilterTally, Lists, filterOnward, filterRunFrom, asking, filterNextsFrom, filterTallyOf, filterCounted, refuseFilterRun, filterNextRunOf, filterNextRunOut, filterSeeksFrom, filterSeekRunOf, singly, andThen}
+use Rattle.filter_runs.specs.Inner.{filterRoomFor}
 use Rattle.filter_runs.proofs.Tests.{filterTests, refused-alike, clear-alike, call-clear}
 use Rattle.filter_runs.proofs.GoingOn.{then}
 
@@ -107,6 +109,28 @@ module _ (p : Source) (l : Lists) where
         let e = next-run-refuses n .0 h in
         (ap (λ (t : FilterTally). t .filter) (sym (refused n e)), λ d is. rw (is, h))
 
+  -- ---- seeks
+
+  module _ (f : Filter) (xs : List ℤ) (places : ℕ) where
+    abbrev seeks : FilterTally
+    seeks = filterSeekRunOf p l xs places f
+
+    abbrev roomTest : List Trial
+    roomTest = trial Room (ltb places (length (filterSeeksFrom q l xs f .values))) ∷ []
+
+    asked : accepted (callOf p (asking l Next) f .said) ≡ true → filterRoomFor places f (filterSeeksFrom q l xs f) ≡ seeks
+    unfolding filterSeekRunOf tried
+    asked ok = clear-tried (refuseFilterRun f) (filterTests p l f) roomTest (filterCounted (filterSeeksFrom q l xs f)) (clear-alike p l f Next ok)
+
+    -- the single calls; 10 exactly if they give more values than there are places
+    pub seek-run-is-single-calls : accepted (callOf p (asking l Next) f .said) ≡ true → seeks ≡ filterRoomFor places f (singly p (map (asking l) (map Seek xs)) f)
+    seek-run-is-single-calls ok = sym (asked ok) ∙ ap (filterRoomFor places f) (run-is-single-calls (map Seek xs) f (clear-alike p l f Next ok))
+
+    -- refused as a single call is, by the same number, whatever the targets and places; the filter as it went in
+    pub seek-run-refused : (n : ℕ) → callOf p (asking l Next) f .said ≡ Number n → seeks ≡ refuseFilterRun f n
+    unfolding filterSeekRunOf tried
+    seek-run-refused n h = sym (refused-alike p l f Next (refuseFilterRun f) _ roomTest n h)
+
 -- ---- one result
 
 counted-is : (n : Counted) → answering Values Refused (saysCounted n) ≡ n
@@ -117,6 +141,10 @@ ran-apart = undone filterTallyOf (λ t. record { filter = t .filter; counted = a
 
 pub next-run-one : (p : Source) (l : Lists) (n : ℕ) (f : Filter) (x y : FilterRan) → filterTallyOf x ≡ filterNextRunOf p l n f → filterTallyOf y ≡ filterNextRunOf p l n f → x ≡ y
 next-run-one p l n f = one-result filterTallyOf ran-apart
+
+pub seek-run-one : (p : Source) (l : Lists) (xs : List ℤ) (n : ℕ) (f : Filter) (x y : FilterRan)
+    → filterTallyOf x ≡ filterSeekRunOf p l xs n f → filterTallyOf y ≡ filterSeekRunOf p l xs n f → x ≡ y
+seek-run-one p l xs n f = one-result filterTallyOf ran-apart
 
 -- ---- a run cut in two
 
