@@ -86,7 +86,8 @@ pub extern "C" fn loftsplice_scan_seek_run(
     out: &mut [i64],
 ) -> FlatRan
     ensures { λ r. ⌜ r ≡ callRun scan (seekRunOf (source starts ends steps) (now (targets .entry)) (length (now (out .entry)))) ⌝ }
-    ensures { λ _. ⌜ now (out .exit) ≡ outLeft scan (seekRunOut (source starts ends steps) (now (targets .entry)) (now (out .entry))) (now (out .entry)) ⌝ }
+    ensures { λ _. ⌜ now (out .exit) ≡ outLeft scan (seekRunOut (source starts ends steps) (now (targets .entry)) (now (out .entry)))
+        (now (out .entry)) ⌝ }
 {
     if is_scan(scan) {
         let ran = seek_run(scan_of(scan), starts, ends, steps, targets, out);

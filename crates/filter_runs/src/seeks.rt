@@ -32,7 +32,8 @@ fn seeks_on(
     out: &mut [i64],
 ) -> FilterRan
     requires { ⌜ Stands (columnNow starts ends steps) filter ⌝ }
-    ensures { λ r. ⌜ filterTallyOf r ≡ filterRoomFor (length (now (out .entry))) filter (seeksOn (sequence starts ends steps) (now (targets .entry)) filter) ⌝ }
+    ensures { λ r. ⌜ filterTallyOf r ≡ filterRoomFor (length (now (out .entry))) filter
+        (seeksOn (sequence starts ends steps) (now (targets .entry)) filter) ⌝ }
     ensures { λ r. ⌜ Leaves out (saysCounted (r .counted)) (seeksIn (sequence starts ends steps) (now (targets .entry)) filter .values) ⌝ }
 {
     let scan = filter.scan;
