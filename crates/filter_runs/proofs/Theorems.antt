@@ -16,19 +16,19 @@ use Rattle.meaning.specs.declared.Refusal.the-variants.{Room}
 use Rattle.meaning.specs.Refusals.{Said, Gives, Number, Trial, tried}
 use Rattle.meaning.specs.Sequence.{Sequence, Source}
 use Rattle.meaning.proofs.Judging.{trial, Clear, clear-tried, no-number}
-use Rattle.meaning.proofs.Unique.{Injective, one-result, undone, answering, refusal-is}
+use Rattle.meaning.proofs.Unique.{Injective, one-result, undone, answering}
 use Rattle.loftsplice.specs.declared.scan.Move.{Move}
 use Rattle.loftsplice.specs.declared.scan.Move.the-variants.{Next, Seek}
-use Rattle.loftsplice.specs.declared.running.Counted.{Counted}
 use Rattle.loftsplice.specs.declared.running.Counted.the-variants.{Values, Refused}
 use Rattle.loftsplice.specs.Scan.{badScan}
-use Rattle.loftsplice.specs.Running.{nexts, saysCounted}
+use Rattle.loftsplice.specs.Running.{nexts}
 use Rattle.loftsplice.proofs.ScanCases.{end-in}
 use Rattle.filter_interval.specs.declared.Filter.{Filter}
 use Rattle.filter_interval.specs.Filter.{Sifting, Call, stepFrom, callOf}
 use Rattle.theorems.specs.Exact.{accepted}
 use Rattle.theorems.proofs.Moves.{unmoved, restricted-bad}
 use Rattle.theorems.proofs.AcceptedRuns.{Begun, step-begun}
+use Rattle.theorems.proofs.Unique.{counted-is}
 use Rattle.filter_runs.specs.declared.FilterRan.{FilterRan}
 use Rattle.filter_runs.specs.Runs.{FilterRun, FilterTally, Lists, filterOnward, filterRunFrom, asking, filterNextsFrom, filterTallyOf, filterCounted, refuseFilterRun, filterNextRunOf, filterNextRunOut, filterSeeksFrom, filterSeekRunOf, singly, andThen}
 use Rattle.filter_runs.specs.Inner.{filterRoomFor}
@@ -132,9 +132,6 @@ module _ (p : Source) (l : Lists) where
     seek-run-refused n h = sym (refused-alike p l f Next (refuseFilterRun f) _ roomTest n h)
 
 -- ---- one result
-
-counted-is : (n : Counted) → answering Values Refused (saysCounted n) ≡ n
-counted-is = elim [ Values n ↦ refl | Refused w ↦ ap Refused (refusal-is w) ]
 
 pub ran-apart : Injective filterTallyOf
 ran-apart = undone filterTallyOf (λ t. record { filter = t .filter; counted = answering Values Refused (t .said) }) (λ r. rw (counted-is (r .counted)))

@@ -110,12 +110,12 @@ pub sifting-apart : Injective siftingOf
 sifting-apart = undone siftingOf (λ o. record { filter = o .filter; answer = answerOf (o .said) }) (λ m. rw (answer-is (m .answer)))
 
 -- of a run of calls, with the scan; and where a run of seeks begins
+pub counted-is : (n : Counted) → answering Values RunRefused (saysCounted n) ≡ n
+counted-is = elim [ Values n ↦ refl | RunRefused w ↦ ap RunRefused (refusal-is w) ]
+
 pub tally-apart : Injective tallyOf
 tally-apart = undone tallyOf (λ t. record { scan = t .scan; counted = answering Values RunRefused (t .said) })
     (λ r. rw (counted-is (r .counted)))
-  where
-    counted-is : (n : Counted) → answering Values RunRefused (saysCounted n) ≡ n
-    counted-is = elim [ Values n ↦ refl | RunRefused w ↦ ap RunRefused (refusal-is w) ]
 
 pub footed-apart : Injective saysFooted
 footed-apart = undone saysFooted (answering (elim [ some f ↦ On f | none ↦ PastWindow ]) FootedRefused)
