@@ -101,7 +101,7 @@ fn filter_state_of(number: u32, kept: Limit) -> FilterState
     }
 }
 
-pub(crate) fn filter_of(filter: FlatFilter) -> Filter
+pub fn filter_of(filter: FlatFilter) -> Filter
     ensures { λ r. ⌜ r ≡ filterOf filter ⌝ }
 {
     let scan = scan_of(filter.scan);
@@ -119,7 +119,7 @@ pub(crate) fn filter_of(filter: FlatFilter) -> Filter
     }
 }
 
-pub(crate) fn flat_filter(filter: Filter) -> FlatFilter
+pub fn flat_filter(filter: Filter) -> FlatFilter
     ensures { λ r. ⌜ r ≡ flatFilter filter ⌝ }
 {
     let low = filter.lower;
@@ -234,7 +234,7 @@ pub(crate) fn is_fit(
 }
 
 // Whether what a call is handed has the form: the filter, and each list.
-pub(crate) fn is_call(
+pub fn is_call(
     filter: FlatFilter,
     lows: &[u64],
     lowkinds: &[u8],
