@@ -201,6 +201,13 @@ typedef struct loftsplice_sifted {
     loftsplice_answer answer;
 } loftsplice_sifted;
 
+/* The filter as a run of calls leaves it, and the number of values that they gave. */
+typedef struct loftsplice_filter_ran {
+    loftsplice_filter filter;
+    uint32_t refusal;
+    uint64_t count;
+} loftsplice_filter_ran;
+
 /* The filter after its reset. */
 typedef struct loftsplice_reset {
     uint32_t refusal;
@@ -267,6 +274,7 @@ LOFTSPLICE_LAYOUT_2(loftsplice_moved, 56, scan, 0, answer, 40);
 LOFTSPLICE_LAYOUT_3(loftsplice_ran, 56, scan, 0, refusal, 40, count, 48);
 LOFTSPLICE_LAYOUT_2(loftsplice_new_filter, 104, refusal, 0, filter, 8);
 LOFTSPLICE_LAYOUT_2(loftsplice_sifted, 112, filter, 0, answer, 96);
+LOFTSPLICE_LAYOUT_3(loftsplice_filter_ran, 112, filter, 0, refusal, 96, count, 104);
 LOFTSPLICE_LAYOUT_2(loftsplice_reset, 104, refusal, 0, filter, 8);
 LOFTSPLICE_LAYOUT_2(loftsplice_listed, 16, refusal, 0, sum, 8);
 LOFTSPLICE_LAYOUT_3(loftsplice_read, 24, refusal, 0, runs, 8, used, 16);
@@ -374,6 +382,23 @@ loftsplice_answer loftsplice_filter_current(loftsplice_filter filter);
 
 /* Before again, in the same mode, the scan as it stands; or refused 100. O(1). */
 loftsplice_reset loftsplice_filter_reset(loftsplice_filter filter);
+
+/* Many moves of a filter in one call, as of a scan above: the values are the answers of the single calls one after the other, the filter is the one that
+ * the last of them leaves. The lists are handed over once, and read by the first call of the run if the filter is Before. */
+
+/* As many loftsplice_filter_next as out has places; or refused 100, 1, 2, 3, 6, 8, 7, 9. O(R + N). */
+loftsplice_filter_ran loftsplice_filter_next_run(loftsplice_filter filter, const int64_t *starts, size_t starts_len, const uint64_t *ends,
+    size_t ends_len, const int16_t *steps, size_t steps_len, const uint64_t *lower_inputs, size_t lower_inputs_len, const uint8_t *lower_kinds,
+    size_t lower_kinds_len, const uint64_t *upper_inputs, size_t upper_inputs_len, const uint8_t *upper_kinds, size_t upper_kinds_len,
+    const int64_t *input_values, size_t input_values_len, const uint8_t *input_found, size_t input_found_len, int64_t *out, size_t out_len);
+
+/* A loftsplice_filter_seek of each target in turn, in any order; or refused 100, 1, 2, 3, 6, 8, 7, 9, 10: the last where out has fewer places than there
+ * are values, so as many places as targets are always enough. O(R + T). */
+loftsplice_filter_ran loftsplice_filter_seek_run(loftsplice_filter filter, const int64_t *starts, size_t starts_len, const uint64_t *ends,
+    size_t ends_len, const int16_t *steps, size_t steps_len, const int64_t *targets, size_t targets_len, const uint64_t *lower_inputs,
+    size_t lower_inputs_len, const uint8_t *lower_kinds, size_t lower_kinds_len, const uint64_t *upper_inputs, size_t upper_inputs_len,
+    const uint8_t *upper_kinds, size_t upper_kinds_len, const int64_t *input_values, size_t input_values_len, const uint8_t *input_found,
+    size_t input_found_len, int64_t *out, size_t out_len);
 
 /* ---- the batch listing */
 

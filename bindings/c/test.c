@@ -107,11 +107,14 @@ static loftsplice_ran nexts_of(loftsplice_scan s, column c, int64_t *out, size_t
 static loftsplice_ran seeks_of(loftsplice_scan s, column c, const int64_t *targets, size_t targets_len, int64_t *out, size_t out_len) {
     return loftsplice_scan_seek_run(s, LISTS(c), targets, targets_len, unwritten(out), out_len);
 }
+static void same_out_at(int line, const int64_t *out, const int64_t *values, size_t count) {
+    for (size_t i = 0; i < places; i++) same_at("out", line, out[i], i < count ? values[i] : -77);
+}
 static void same_run_at(int line, loftsplice_ran got, const int64_t *out, uint32_t refusal, loftsplice_scan scan, const int64_t *values, size_t count) {
     same_at("ran.refusal", line, got.refusal, refusal);
     same_at("ran.count", line, (int64_t)got.count, (int64_t)count);
     same_scan_at(line, got.scan, scan);
-    for (size_t i = 0; i < places; i++) same_at("out", line, out[i], i < count ? values[i] : -77);
+    same_out_at(line, out, values, count);
 }
 
 /* Each call on a scan that takes the column, all with the same refusal, and the scan as it went in; a run of no calls too. */
@@ -163,8 +166,29 @@ static loftsplice_sifted seek_of(loftsplice_filter f, column c, int64_t target, 
     return loftsplice_filter_seek(f, LISTS(c), target, VARIABLES(l));
 }
 
-/* next and seek, both with the same refusal, and the filter as it went in. */
+/* Runs of a filter's calls, into such an output. */
+static loftsplice_filter_ran sifts_of(loftsplice_filter f, column c, lists l, int64_t *out, size_t out_len) {
+    return loftsplice_filter_next_run(f, LISTS(c), VARIABLES(l), unwritten(out), out_len);
+}
+static loftsplice_filter_ran sought_of(loftsplice_filter f, column c, const int64_t *targets, size_t targets_len, lists l, int64_t *out, size_t out_len) {
+    return loftsplice_filter_seek_run(f, LISTS(c), targets, targets_len, VARIABLES(l), unwritten(out), out_len);
+}
+static void same_filter_run_at(int line, loftsplice_filter_ran got, const int64_t *out, uint32_t refusal, loftsplice_filter filter, const int64_t *values,
+    size_t count) {
+    same_at("filter_ran.refusal", line, got.refusal, refusal);
+    same_at("filter_ran.count", line, (int64_t)got.count, (int64_t)count);
+    same_filter_at(line, got.filter, filter);
+    same_out_at(line, out, values, count);
+}
+
+/* next and seek, both with the same refusal, and the filter as it went in; runs of them too, also of no calls. */
 static void call_refused_at(int line, column c, loftsplice_filter f, lists l, uint32_t refusal) {
+    static const int64_t targets[] = {7, 8};
+    int64_t out[places];
+    for (size_t calls = 0; calls < 3; calls++) {
+        same_filter_run_at(line, sifts_of(f, c, l, out, calls), out, refusal, f, NULL, 0);
+        same_filter_run_at(line, sought_of(f, c, targets, calls, l, out, calls), out, refusal, f, NULL, 0);
+    }
     loftsplice_sifted sifted[] = {next_of(f, c, l), seek_of(f, c, 7, l)};
     for (size_t i = 0; i < 2; i++) {
         same_answer_at(line, sifted[i].answer, refusal, 0, 0);
@@ -663,6 +687,118 @@ static void filters(void) {
     CALL_REFUSED(C, no_filter, no_lists, LOFTSPLICE_FORM);
 }
 
+/* A run of a filter's nexts against single calls, one after the other, each handed the same lists. */
+static void sifts_at(int line, column c, loftsplice_filter f, lists l, size_t calls) {
+    int64_t out[places], values[places];
+    loftsplice_filter_ran ran = sifts_of(f, c, l, out, calls);
+    loftsplice_sifted m = {f, {0, 1, 0}};
+    size_t count = 0;
+    for (size_t i = 0; i < calls && m.answer.found; i++) {
+        m = next_of(m.filter, c, l);
+        if (m.answer.found) values[count++] = m.answer.value;
+    }
+    same_filter_run_at(line, ran, out, 0, m.filter, values, count);
+}
+
+/* A run of a filter's seeks likewise, with as many places as there are values and with more; with fewer it is refused 10. */
+static void sought_at(int line, column c, loftsplice_filter f, lists l, const int64_t *targets, size_t calls) {
+    int64_t out[places], values[places];
+    loftsplice_sifted m = {f, {0, 1, 0}};
+    size_t count = 0;
+    for (size_t i = 0; i < calls && m.answer.found; i++) {
+        m = seek_of(m.filter, c, targets[i], l);
+        if (m.answer.found) values[count++] = m.answer.value;
+    }
+    for (size_t more = 0; count + more <= places; more++)
+        same_filter_run_at(line, sought_of(f, c, targets, calls, l, out, count + more), out, 0, m.filter, values, count);
+    for (size_t less = 0; less < count; less++)
+        same_filter_run_at(line, sought_of(f, c, targets, calls, l, out, less), out, LOFTSPLICE_ROOM, f, NULL, 0);
+}
+
+/* Both runs, in every number of calls up to 12 and 6, with targets that rise and that fall. */
+static void filter_runs_from(int line, column c, loftsplice_filter f, lists l) {
+    static const int64_t up[] = {9, 12, 20, 21, 31, 141}, down[] = {26, 12, INT64_MIN, 31, INT64_MAX, 30};
+    for (size_t calls = 0; calls <= places; calls++) sifts_at(line, c, f, l, calls);
+    for (size_t calls = 0; calls <= 6; calls++) {
+        sought_at(line, c, f, l, up, calls);
+        sought_at(line, c, f, l, down, calls);
+    }
+}
+
+static void filter_runs(void) {
+    static const uint8_t inclusive[] = {LOFTSPLICE_INCLUSIVE}, exclusive[] = {LOFTSPLICE_EXCLUSIVE}, there[] = {1, 1}, not_there[] = {0, 0};
+    static const int64_t at_10[] = {10}, at_15[] = {15}, at_40[] = {40}, met[] = {15, 20, 25, 30, 31, 40};
+    int64_t out[places];
+    loftsplice_scan s = fresh(C);
+    loftsplice_limit at_most_40 = {40, LOFTSPLICE_INCLUSIVE}, free_limit = {0, LOFTSPLICE_FREE};
+
+    /* P10 in one call: with as many places the filter is Within, at 40; with one more After, its scan where it fell out */
+    loftsplice_filter f = fitted(s, at_10, exclusive, 1, at_40, inclusive, 1), within = f, after = f;
+    within.scan = (loftsplice_scan){0, 9, 6, 40, LOFTSPLICE_AT, 1}, within.kept = at_most_40, within.state = LOFTSPLICE_WITHIN;
+    after.scan = (loftsplice_scan){0, 9, 7, 140, LOFTSPLICE_AT, 1}, after.state = LOFTSPLICE_AFTER;
+    same_filter_run_at(__LINE__, sifts_of(f, C, no_lists, out, 6), out, 0, within, met, 6);
+    same_filter_run_at(__LINE__, sifts_of(f, C, no_lists, out, 7), out, 0, after, met, 6);
+    same_filter_run_at(__LINE__, sifts_of(within, C, no_lists, out, 12), out, 0, after, NULL, 0);
+    same_filter_run_at(__LINE__, sifts_of(after, C, no_lists, out, 12), out, 0, after, NULL, 0);
+
+    /* the logs 9, 16, 12 and 41: none of them is carried; 41 lies past the bound, and ends the run before 15 is asked */
+    static const int64_t logs[] = {9, 16, 12, 41, 15}, found[] = {15, 20, 20};
+    loftsplice_filter at_20 = within;
+    at_20.scan = (loftsplice_scan){0, 9, 2, 20, LOFTSPLICE_AT, 1};
+    same_filter_run_at(__LINE__, sought_of(f, C, logs, 3, no_lists, out, 3), out, 0, at_20, found, 3);
+    same_filter_run_at(__LINE__, sought_of(f, C, logs, 5, no_lists, out, 12), out, 0, after, found, 3);
+    same_filter_run_at(__LINE__, sought_of(f, C, logs, 5, no_lists, out, 3), out, 0, after, found, 3);
+    same_filter_run_at(__LINE__, sought_of(f, C, logs, 5, no_lists, out, 2), out, LOFTSPLICE_ROOM, f, NULL, 0);
+    same_filter_run_at(__LINE__, sought_of(f, C, logs + 3, 2, no_lists, out, 0), out, 0, after, NULL, 0);
+
+    /* P11: Before without a lower bound the first target is ignored */
+    static const int64_t hundreds[] = {100, 100, 100}, first_ignored[] = {10, 140, 140};
+    loftsplice_filter open = fitted(s, NULL, NULL, 0, NULL, NULL, 0), at_140 = open;
+    at_140.scan = after.scan, at_140.kept = free_limit, at_140.state = LOFTSPLICE_WITHIN;
+    same_filter_run_at(__LINE__, sought_of(open, C, hundreds, 3, no_lists, out, 12), out, 0, at_140, first_ignored, 3);
+
+    /* above input 1, at most input 0: read by the first call, if the filter is Before, and by no other; the lower list and the upper are two */
+    static const uint64_t name_0[] = {0}, name_1[] = {1};
+    static const int64_t values[] = {30, 20}, between[] = {25, 30};
+    lists l = {name_1, 1, exclusive, 1, name_0, 1, inclusive, 1, values, 2, there, 2}, empty = l, turned = l;
+    empty.found = not_there;
+    turned.lower = name_0, turned.upper = name_1;
+    loftsplice_filter fell_out = open;
+    fell_out.scan = (loftsplice_scan){0, 9, 5, 31, LOFTSPLICE_AT, 1}, fell_out.state = LOFTSPLICE_AFTER;
+    same_filter_run_at(__LINE__, sifts_of(open, C, l, out, 12), out, 0, fell_out, between, 2);
+    same_filter_run_at(__LINE__, sifts_of(open, C, turned, out, 12), out, 0, fell_out, NULL, 0);
+    CALL_REFUSED(C, open, empty, LOFTSPLICE_INPUT);
+    same_filter_run_at(__LINE__, sifts_of(next_of(open, C, l).filter, C, empty, out, 12), out, 0, fell_out, between + 1, 1);
+
+    /* a run of no calls changes nothing, but that what is not read comes back as 0, as from every call */
+    loftsplice_filter unread = after, read = after;
+    unread.kept = (loftsplice_limit){77, LOFTSPLICE_EXCLUSIVE}, read.kept = free_limit;
+    same_filter_run_at(__LINE__, sifts_of(f, C, l, out, 0), out, 0, f, NULL, 0);
+    same_filter_run_at(__LINE__, sought_of(within, C, NULL, 0, l, out, 12), out, 0, within, NULL, 0);
+    same_filter_run_at(__LINE__, sifts_of(unread, C, no_lists, out, 0), out, 0, read, NULL, 0);
+
+    /* 7 stands before 9 and 10, also where there is no target */
+    loftsplice_filter over_d = fitted(fresh(D), NULL, NULL, 0, NULL, NULL, 0);
+    same_filter_run_at(__LINE__, sought_of(over_d, D, logs, 1, empty, out, 0), out, LOFTSPLICE_ORDER, over_d, NULL, 0);
+    same_filter_run_at(__LINE__, sought_of(open, C, logs, 1, empty, out, 0), out, LOFTSPLICE_INPUT, open, NULL, 0);
+    same_filter_run_at(__LINE__, sought_of(open, C, logs, 1, l, out, 0), out, LOFTSPLICE_ROOM, open, NULL, 0);
+
+    /* against single calls: with constant bounds, with variable ones and with both, in both modes, from Before, Within at each element, and After */
+    const lists all_lists[] = {no_lists, l, turned};
+    for (uint32_t mode = LOFTSPLICE_INCLUSIVE_WINS; mode <= LOFTSPLICE_EXCLUSIVE_WINS; mode++)
+        for (size_t which = 0; which < 3; which++)
+            for (size_t bounds = 0; bounds < 4; bounds++) {
+                loftsplice_scan narrow = s;
+                if (bounds == 3) narrow = loftsplice_scan_narrow(s, LISTS(C), 1, 7).scan;
+                loftsplice_filter from = fitted_in(mode, narrow, at_15, exclusive, bounds & 1, bounds == 2 ? at_15 : at_40, exclusive, bounds >> 1);
+                for (size_t moves = 0; moves <= 10; moves++) {
+                    filter_runs_from(__LINE__, C, from, all_lists[which]);
+                    from = next_of(from, C, all_lists[which]).filter;
+                }
+                filter_runs_from(__LINE__, C, loftsplice_filter_reset(from).filter, all_lists[which]);
+            }
+}
+
 /* A listing into 8 places of output and 4 of counts, which hold -77 and 99 before; the first of them are compared with what is wanted. */
 static void listing_at(int line, column c, const uint64_t *from, size_t from_len, const uint64_t *to, size_t to_len, const int64_t *low, size_t low_len,
     const uint8_t *low_kinds, size_t low_kinds_len, size_t out_len, size_t counts_len, uint32_t refusal, const int64_t *values, size_t sum,
@@ -874,6 +1010,7 @@ int main(void) {
     carried();
     runs();
     filters();
+    filter_runs();
     listings();
     cut_windows();
     chained_seeks();
