@@ -48,10 +48,9 @@ returns c =
     let at-lower = at-upper .before in
     let at-test = at-lower .before in
     let s = start (at-test .before) in
-    let good = sym (at-test .before .is-call .ensures) ∙ at-test .if1 .taken in
-    let ran = rw (at-lower .variables-of .ensures, at-upper .variables-of2 .ensures, at-inputs .inputs-of .ensures) at (at-call .seek-run .ensures) in (
-      called (s .args .filter) _ good (at-filter .filter-of .ensures) _ (ran .0) (c .flat-filter-ran .ensures),
-      left (s .args .filter) _ good (at-filter .filter-of .ensures) _ _ (ran .1),
+    let good = sym (at-test .before .is-call .ensures) ∙ at-test .if1 .taken in (
+      called (s .args .filter) _ good (at-filter .filter-of .ensures) (at-lower .variables-of .ensures) (at-upper .variables-of2 .ensures) (at-inputs .inputs-of .ensures) _ (at-call .seek-run .ensures .0) (c .flat-filter-ran .ensures),
+      left (s .args .filter) _ good (at-filter .filter-of .ensures) (at-lower .variables-of .ensures) (at-upper .variables-of2 .ensures) (at-inputs .inputs-of .ensures) _ _ (at-call .seek-run .ensures .1),
     )
 
 returns-2 : tie.Need-returns-2
