@@ -2,7 +2,7 @@
 ghost use mathlib.Core.Path.{_≡_};
 ghost use lib.ListN.{length};
 ghost use Rattle.meaning.specs.Contracts.{source};
-ghost use Rattle.filter_runs.specs.Runs.{filterTallyOf, refuseFilterRun, filterNextRunOf, filterNextRunOut, filterSeekRunOf, filterSeekRunOut};
+ghost use Rattle.filter_runs.specs.Runs.{filterTallyOf, refuseFilterRun, filterNextRunOf, filterNextRunOut, seekRunAt, seekOutAt};
 ghost use Rattle.c_forms.specs.Flat.{form};
 ghost use Rattle.c_filter.specs.Filter.{filterOf};
 ghost use Rattle.c_filter.specs.Contracts.{lists};
@@ -106,10 +106,9 @@ pub extern "C" fn loftsplice_filter_seek_run(
     found: &[u8],
     out: &mut [i64],
 ) -> FlatFilterRan
-    ensures { λ r. ⌜ r ≡ callFilterRun (λ l. filterSeekRunOf (source starts ends steps) l (now (targets .entry)) (length (now (out .entry))))
+    ensures { λ r. ⌜ r ≡ callFilterRun (seekRunAt targets out (source starts ends steps)) (lists lows lowkinds ups upkinds values found) filter ⌝ }
+    ensures { λ _. ⌜ now (out .exit) ≡ filterOutLeft (seekOutAt targets out (source starts ends steps)) (now (out .entry))
         (lists lows lowkinds ups upkinds values found) filter ⌝ }
-    ensures { λ _. ⌜ now (out .exit) ≡ filterOutLeft (λ l. filterSeekRunOut (source starts ends steps) l (now (targets .entry)) (now (out .entry)))
-        (now (out .entry)) (lists lows lowkinds ups upkinds values found) filter ⌝ }
 {
     if is_call(filter, lows, lowkinds, ups, upkinds, values, found) {
         let lower = variables_of(lows, lowkinds);
