@@ -113,7 +113,8 @@ impl Mode {
     }
 }
 
-/// Variable bounds, each naming an input, and the inputs' current answers: what is handed over with a filter's `next_with` and `seek_with`.
+/// Variable bounds, each naming an input, and the inputs' current answers: what is handed over with a filter's `next_with` and `seek_with`, and
+/// once with a run of them.
 ///
 /// ```
 /// use loftsplice::{Bound, Column, Filter, Variables};
@@ -147,6 +148,35 @@ pub(crate) fn lists<T: Copy, U>(bounds: &[Bound<T>], number: impl Fn(T) -> U) ->
             Bound::Exclusive(value) => (number(value), raw::EXCLUSIVE as u8),
         })
         .unzip()
+}
+
+/// Variable bounds and inputs as the lists of numbers in which they cross.
+pub(crate) struct Lists {
+    lower: (Vec<u64>, Vec<u8>),
+    upper: (Vec<u64>, Vec<u8>),
+    inputs: (Vec<i64>, Vec<u8>),
+}
+
+impl Lists {
+    pub(crate) fn of(variables: Variables<'_>) -> Lists {
+        let given = |input: &Option<i64>| (input.unwrap_or(0), u8::from(input.is_some()));
+        Lists {
+            lower: lists(variables.lower, |input| input as u64),
+            upper: lists(variables.upper, |input| input as u64),
+            inputs: variables.inputs.iter().map(given).unzip(),
+        }
+    }
+
+    pub(crate) fn lent(&self) -> raw::Variables<'_> {
+        raw::Variables {
+            lower_inputs: &self.lower.0,
+            lower_kinds: &self.lower.1,
+            upper_inputs: &self.upper.0,
+            upper_kinds: &self.upper.1,
+            input_values: &self.inputs.0,
+            input_found: &self.inputs.1,
+        }
+    }
 }
 
 /// A limit that the library gave.

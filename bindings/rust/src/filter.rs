@@ -1,10 +1,12 @@
-use alloc::vec::Vec;
-
-use crate::bound::lists;
+use crate::bound::{lists, Lists};
 use crate::{raw, Bound, Mode, Refusal, Scan, Variables};
 
 mod held;
+mod running;
+mod sieve;
 mod values;
+
+use sieve::Sieve;
 
 pub use values::Values;
 
@@ -34,6 +36,9 @@ pub enum FilterState {
 
 /// The elements of a scan that meet bounds. The scan's window has to rise: each call is refused [`Refusal::Order`] if it doesn't.
 ///
+/// `next`, and [`Filter::values`], which goes by it, fetch many elements in one call, into a buffer of the filter's own. It stands at the one that it
+/// gave last: what is asked of it between two elements goes on from there.
+///
 /// ```
 /// use loftsplice::{Bound, Column, Filter};
 ///
@@ -46,8 +51,9 @@ pub enum FilterState {
 /// ```
 #[derive(Clone, Debug, PartialEq, Eq, Hash)]
 pub struct Filter<'a> {
+    /// Where the reader stands. What it has fetched, it has for the filter: elements that meet the bounds.
     scan: Scan<'a>,
-    filter: raw::Filter,
+    sieve: Sieve,
 }
 
 impl<'a> Filter<'a> {
@@ -89,7 +95,7 @@ impl<'a> Filter<'a> {
     /// As [`Filter::new`].
     pub fn in_mode(
         mode: Mode,
-        scan: Scan<'a>,
+        mut scan: Scan<'a>,
         lower: &[Bound],
         upper: &[Bound],
     ) -> Result<Filter<'a>, Refusal> {
@@ -103,13 +109,16 @@ impl<'a> Filter<'a> {
             &ups,
             &up_kinds,
         );
-        Refusal::or(
-            fitted.refusal,
-            Filter {
-                scan,
-                filter: fitted.filter,
-            },
-        )
+        // it forgets what it has fetched for itself, whether that meets the bounds or not
+        scan.goes_to(fitted.filter.scan);
+        let sieve = Sieve::of(fitted.filter);
+        Refusal::or(fitted.refusal, Filter { scan, sieve })
+    }
+
+    /// To where a call of the library left it.
+    fn goes_to(&mut self, filter: raw::Filter) {
+        self.scan.goes_to(filter.scan);
+        self.sieve = Sieve::of(filter);
     }
 
     /// The next element that meets the bounds, or none.
@@ -128,11 +137,21 @@ impl<'a> Filter<'a> {
         clippy::should_implement_trait,
         reason = "an iterator's `next` can't be refused; `values` is the iterator"
     )]
+    #[inline]
     pub fn next(&mut self) -> Result<Option<i64>, Refusal> {
-        self.next_with(Variables::default())
+        self.scan.step().map_or_else(
+            || {
+                // by value, as a scan does
+                let (answer, filter) = self.leave().fetched();
+                *self = filter;
+                answer
+            },
+            |value| Ok(Some(value)),
+        )
     }
 
-    /// The same with variable bounds, which are read only while the filter is before.
+    /// The same with variable bounds, which are read only while the filter is before. It makes one call for one element: once the filter is within, `next`
+    /// gives the same elements.
     ///
     /// ```
     /// use loftsplice::{Bound, Column, Filter, Refusal, Variables};
@@ -150,17 +169,14 @@ impl<'a> Filter<'a> {
     ///
     /// [`Refusal::Bounds`] for over 16 bounds in a list or over 8 inputs ([`raw::MAX_INPUTS`]), [`Refusal::Order`], [`Refusal::Input`].
     pub fn next_with(&mut self, variables: Variables<'_>) -> Result<Option<i64>, Refusal> {
-        let column = self.scan.column();
-        let filter = self.filter;
-        self.sifted(variables, |lists| {
-            raw::filter_next(
-                filter,
-                column.starts(),
-                column.ends(),
-                column.steps(),
-                lists,
-            )
-        })
+        let (column, filter) = (self.scan.column(), self.raw());
+        self.sifted(raw::filter_next(
+            filter,
+            column.starts(),
+            column.ends(),
+            column.steps(),
+            Lists::of(variables).lent(),
+        ))
     }
 
     /// The first element from here on that is not below the target and meets the bounds, or none. Without a lower bound the first call ignores the
@@ -204,42 +220,19 @@ impl<'a> Filter<'a> {
         target: i64,
         variables: Variables<'_>,
     ) -> Result<Option<i64>, Refusal> {
-        let column = self.scan.column();
-        let filter = self.filter;
-        self.sifted(variables, |lists| {
-            raw::filter_seek(
-                filter,
-                column.starts(),
-                column.ends(),
-                column.steps(),
-                target,
-                lists,
-            )
-        })
+        let (column, filter) = (self.scan.column(), self.raw());
+        self.sifted(raw::filter_seek(
+            filter,
+            column.starts(),
+            column.ends(),
+            column.steps(),
+            target,
+            Lists::of(variables).lent(),
+        ))
     }
 
-    fn sifted(
-        &mut self,
-        variables: Variables<'_>,
-        call: impl Fn(raw::Variables<'_>) -> raw::Sifted,
-    ) -> Result<Option<i64>, Refusal> {
-        let (lower_inputs, lower_kinds) = lists(variables.lower, |input| input as u64);
-        let (upper_inputs, upper_kinds) = lists(variables.upper, |input| input as u64);
-        let (input_values, input_found): (Vec<i64>, Vec<u8>) = variables
-            .inputs
-            .iter()
-            .map(|input| (input.unwrap_or(0), u8::from(input.is_some())))
-            .unzip();
-        let sifted = call(raw::Variables {
-            lower_inputs: &lower_inputs,
-            lower_kinds: &lower_kinds,
-            upper_inputs: &upper_inputs,
-            upper_kinds: &upper_kinds,
-            input_values: &input_values,
-            input_found: &input_found,
-        });
-        self.filter = sifted.filter;
-        self.scan = Scan::over(self.scan.column(), sifted.filter.scan);
+    fn sifted(&mut self, sifted: raw::Sifted) -> Result<Option<i64>, Refusal> {
+        self.goes_to(sifted.filter);
         Refusal::or(
             sifted.answer.refusal,
             (sifted.answer.found == 1).then_some(sifted.answer.value),
@@ -257,10 +250,10 @@ impl<'a> Filter<'a> {
     /// # Ok::<(), loftsplice::Refusal>(())
     /// ```
     pub fn reset(&mut self) {
-        self.filter = raw::filter_reset(self.filter).filter;
+        self.goes_to(raw::filter_reset(self.raw()).filter);
     }
 
-    /// An iterator over the elements that are left: by `next` alone, up to none or a refusal.
+    /// An iterator over the elements that are left: by `next` alone, up to none or a refusal. A loop over the filter itself is one over these.
     ///
     /// ```
     /// use loftsplice::{Bound, Column, Filter};

@@ -45,6 +45,8 @@ mod refusal;
 mod run;
 #[forbid(unsafe_code)]
 mod scan;
+#[forbid(unsafe_code)]
+mod seek_each;
 #[allow(unsafe_code, reason = "the calls of the proved archive")]
 mod sys;
 #[forbid(unsafe_code)]
@@ -58,4 +60,5 @@ pub use listing::{list, list_in_mode};
 pub use record::{read_record, write_record, Record};
 pub use refusal::{NoRefusal, Refusal};
 pub use run::{Run, Runs};
-pub use scan::{Scan, ScanState, SeekEach};
+pub use scan::{Scan, ScanState};
+pub use seek_each::SeekEach;

@@ -5,10 +5,8 @@ use crate::{raw, window, Column, Refusal};
 
 mod ahead;
 mod running;
-mod seek_each;
 
 use ahead::Ahead;
-pub use seek_each::SeekEach;
 
 /// The state of a scan.
 ///
@@ -68,7 +66,7 @@ impl<'a> Scan<'a> {
 
     /// The scan with its buffer, out of a place where one without it stays.
     #[inline]
-    fn leave(&mut self) -> Scan<'a> {
+    pub(crate) fn leave(&mut self) -> Scan<'a> {
         Scan {
             ahead: core::mem::take(&mut self.ahead),
             ..*self
@@ -79,6 +77,20 @@ impl<'a> Scan<'a> {
     pub(crate) fn goes_to(&mut self, scan: raw::Scan) {
         self.stands = scan;
         self.ahead.forget();
+    }
+
+    /// To the next element that was fetched: from one element to the next, at an index before and after.
+    #[inline]
+    pub(crate) fn step(&mut self) -> Option<i64> {
+        let value = self.ahead.take()?;
+        self.stands.index += 1;
+        self.stands.value = value;
+        Some(value)
+    }
+
+    /// How many elements that were fetched are left to `step` to.
+    pub(crate) fn fetched_ahead(&self) -> usize {
+        self.ahead.unread()
     }
 
     fn moved(&mut self, moved: raw::Moved) -> Result<Option<i64>, Refusal> {
@@ -270,7 +282,7 @@ impl<'a> Scan<'a> {
     }
 
     /// The elements that are left in the window: those behind the index, or all of them when fresh.
-    const fn left(&self) -> u64 {
+    pub(crate) const fn left(&self) -> u64 {
         self.stands.end.saturating_sub(self.upcoming())
     }
 }
@@ -280,16 +292,12 @@ impl Iterator for Scan<'_> {
 
     #[inline]
     fn next(&mut self) -> Option<i64> {
-        let Some(value) = self.ahead.take() else {
+        self.step().or_else(|| {
             // by value: where no call takes its address, a loop keeps the scan in registers
             let (answer, scan) = self.leave().fetched();
             *self = scan;
-            return answer;
-        };
-        // from one element that was fetched to the next: at an index before and after
-        self.stands.index += 1;
-        self.stands.value = value;
-        Some(value)
+            answer
+        })
     }
 
     fn size_hint(&self) -> (usize, Option<usize>) {

@@ -14,5 +14,5 @@ pub use column::{check, diff_step, get, is_empty, len, place};
 pub use filter::{filter_current, filter_new, filter_next, filter_reset, filter_seek};
 pub use listing::list;
 pub use record::{read_record, write_record};
-pub use runs::{scan_next_run, scan_seek_run};
+pub use runs::{filter_next_run, filter_seek_run, scan_next_run, scan_seek_run};
 pub use scan::{scan_current, scan_narrow, scan_new, scan_next, scan_pos, scan_reset, scan_seek};

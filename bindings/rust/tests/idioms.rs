@@ -208,6 +208,7 @@ fn traits() {
         raw::Ran,
         raw::NewFilter,
         raw::Sifted,
+        raw::FilterRan,
         raw::Reset,
     )>();
     value::<(raw::Listed, raw::ReadRecord, raw::Written)>();
@@ -223,7 +224,8 @@ fn traits() {
     fused::<Scan<'_>>();
     fused::<Runs<'_>>();
     fused::<Values<'_>>();
-    lent::<SeekEach<'_, '_, IntoIter<i64>>>();
+    lent::<SeekEach<'_, Scan<'_>, IntoIter<i64>>>();
+    lent::<SeekEach<'_, Filter<'_>, IntoIter<i64>>>();
     exact::<Scan<'_>>();
     exact::<Runs<'_>>();
     error::<Refusal>();

@@ -20,6 +20,23 @@ fn runs_refused(scan: raw::Scan, ends: &[u64], refusal: u32) {
     assert_eq!(([nexts, seeks, none], out), ([back; 3], [-77; 2]));
 }
 
+/// The same of a filter.
+fn filter_runs_refused(filter: raw::Filter, ends: &[u64], refusal: u32) {
+    let (starts, _, steps) = C;
+    let mut out = [-77; 2];
+    let free = raw::Variables::default();
+    let nexts = raw::filter_next_run(filter, starts, ends, steps, free, &mut out);
+    let seeks = raw::filter_seek_run(filter, starts, ends, steps, &[5, 6], free, &mut out);
+    let none = raw::filter_seek_run(filter, starts, ends, steps, &[], free, &mut []);
+    let count = 0;
+    let back = raw::FilterRan {
+        filter,
+        refusal,
+        count,
+    };
+    assert_eq!(([nexts, seeks, none], out), ([back; 3], [-77; 2]));
+}
+
 #[test]
 fn a_value_that_does_not_belong_there_is_refused_and_comes_back() {
     let (starts, ends, steps) = C;
@@ -76,6 +93,8 @@ fn a_value_that_does_not_belong_there_is_refused_and_comes_back() {
                 raw::filter_next(filter, starts, ends, steps, raw::Variables::default()),
                 raw::Sifted { filter, answer }
             );
+            filter_runs_refused(filter, ends, 6);
+            filter_runs_refused(filter, &[], 1);
             let within = current.filter(|_| state == raw::WITHIN);
             assert_eq!(
                 raw::filter_current(filter),
@@ -179,6 +198,8 @@ fn bad_numbers_are_refused_and_come_back() {
             raw::filter_next(filter, starts, ends, steps, raw::Variables::default()),
             raw::Sifted { filter, answer }
         );
+        filter_runs_refused(unmoded, &[], raw::FORM);
+        filter_runs_refused(filter, ends, raw::FORM);
         assert_eq!(
             raw::filter_reset(filter),
             raw::Reset {
@@ -187,6 +208,11 @@ fn bad_numbers_are_refused_and_come_back() {
             }
         );
     }
+}
+
+#[test]
+fn bad_kinds_and_lists_of_bounds_are_refused() {
+    let (starts, ends, steps) = C;
     let fresh = raw::scan_new(starts, ends, steps).scan;
     for kind in 0..=255 {
         let refusal = if kind == 1 || kind == 2 { 0 } else { raw::FORM };

@@ -14,7 +14,7 @@ impl<'a> Filter<'a> {
     /// ```
     #[must_use]
     pub fn current(&self) -> Option<i64> {
-        let answer = raw::filter_current(self.filter);
+        let answer = raw::filter_current(self.raw());
         (answer.found == 1).then_some(answer.value)
     }
 
@@ -40,7 +40,7 @@ impl<'a> Filter<'a> {
     /// ```
     #[must_use]
     pub const fn raw(&self) -> raw::Filter {
-        self.filter
+        self.sieve.over(self.scan.raw())
     }
 
     /// The lower bound that the constant ones fold to, or none.
@@ -54,7 +54,7 @@ impl<'a> Filter<'a> {
     /// ```
     #[must_use]
     pub const fn lower(&self) -> Option<Bound> {
-        limit(self.filter.lower)
+        limit(self.sieve.lower)
     }
 
     /// The upper bound that the constant ones fold to, or none.
@@ -66,7 +66,7 @@ impl<'a> Filter<'a> {
     /// ```
     #[must_use]
     pub const fn upper(&self) -> Option<Bound> {
-        limit(self.filter.upper)
+        limit(self.sieve.upper)
     }
 
     /// The mode that the filter was made in.
@@ -78,7 +78,7 @@ impl<'a> Filter<'a> {
     /// ```
     #[must_use]
     pub const fn mode(&self) -> Mode {
-        match self.filter.mode {
+        match self.sieve.mode {
             raw::EXCLUSIVE_WINS => Mode::ExclusiveWins,
             _ => Mode::InclusiveWins,
         }
@@ -93,9 +93,9 @@ impl<'a> Filter<'a> {
     /// ```
     #[must_use]
     pub const fn state(&self) -> FilterState {
-        match self.filter.state {
+        match self.sieve.state {
             raw::BEFORE => FilterState::Before,
-            raw::WITHIN => FilterState::Within(limit(self.filter.kept)),
+            raw::WITHIN => FilterState::Within(limit(self.sieve.kept)),
             _ => FilterState::After,
         }
     }

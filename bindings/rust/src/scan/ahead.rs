@@ -4,8 +4,8 @@ use core::hash::{Hash, Hasher};
 
 use crate::raw;
 
-/// Values that one call fetched for an iterator, of which some are read. They follow from the scan that they were fetched for, so they make no difference
-/// between two scans; a clone has none, and fetches for itself.
+/// Values that one call fetched for an iterator, of which some are read. They follow from the scan or filter that they were fetched for, so they make no
+/// difference between two of them; a clone has none, and fetches for itself.
 #[derive(Default)]
 pub(crate) struct Ahead {
     values: Vec<i64>,
@@ -27,17 +27,18 @@ impl Ahead {
         Some(value)
     }
 
-    /// Values of a new run, into so many places.
-    pub(crate) fn fill(
-        &mut self,
-        places: usize,
-        run: impl FnOnce(&mut [i64]) -> raw::Ran,
-    ) -> raw::Ran {
+    /// Values of a new run, into so many places. The run gives their number, and what is handed on.
+    pub(crate) fn fill<R>(&mut self, places: usize, run: impl FnOnce(&mut [i64]) -> (u64, R)) -> R {
         self.values.resize(places, 0);
-        let ran = run(&mut self.values);
-        self.values.truncate(raw::places(ran.count));
+        let (count, rest) = run(&mut self.values);
+        self.values.truncate(raw::places(count));
         self.read = 0;
-        ran
+        rest
+    }
+
+    /// How many are not read yet.
+    pub(crate) fn unread(&self) -> usize {
+        self.values.len() - self.read
     }
 
     /// The scan goes elsewhere: what is not read yet is not behind it any more.
@@ -54,7 +55,7 @@ impl Clone for Ahead {
 
 impl fmt::Debug for Ahead {
     fn fmt(&self, f: &mut fmt::Formatter<'_>) -> fmt::Result {
-        write!(f, "{} values", self.values.len() - self.read)
+        write!(f, "{} values", self.unread())
     }
 }
 

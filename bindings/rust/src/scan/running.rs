@@ -1,4 +1,5 @@
 use super::ahead::Ahead;
+use crate::seek_each::Seeker;
 use crate::{raw, Column, Refusal, Scan, SeekEach};
 
 /// Runs of calls, each behind one check of the column.
@@ -58,31 +59,68 @@ impl<'a> Scan<'a> {
     /// assert_eq!(scan.next(), Some(20)); // after 15, though more was fetched
     /// # Ok::<(), loftsplice::Refusal>(())
     /// ```
-    pub fn seek_each<I>(&mut self, targets: I) -> SeekEach<'_, 'a, I::IntoIter>
+    pub fn seek_each<I>(&mut self, targets: I) -> SeekEach<'_, Scan<'a>, I::IntoIter>
     where
         I: IntoIterator<Item = i64>,
     {
         SeekEach::of(self, targets.into_iter())
     }
 
-    /// Fetches elements, and goes to the first of them: a scan at an index carries the element there. Where none are left it is the none that ends the
-    /// scan.
+    /// Fetches elements, and goes to the first of them. Where none are left it is the none that ends the scan.
     #[cold]
     pub(super) fn fetched(mut self) -> (Option<i64>, Scan<'a>) {
+        let (value, ran) = self.fetch(|column, scan, out| {
+            let ran = nexts(column, scan, out);
+            (ran.count, ran)
+        });
+        if value.is_none() {
+            self.stands = ran.scan;
+        }
+        (value, self)
+    }
+
+    /// Fetches elements by a run of nexts, the scan's own or those of a filter that holds it, and goes to the first of them, if there is one: a scan at an
+    /// index carries the element there. What else the run gave is handed on.
+    pub(crate) fn fetch<R>(
+        &mut self,
+        run: impl FnOnce(Column<'a>, raw::Scan, &mut [i64]) -> (u64, R),
+    ) -> (Option<i64>, R) {
         let (column, scan, index) = (self.column, self.stands, self.upcoming());
         let most = Ahead::places(column.starts().len());
         let places = raw::places(self.left()).clamp(1, most);
-        let ran = self.ahead.fill(places, |out| nexts(column, scan, out));
-        let Some(value) = self.ahead.take() else {
-            self.stands = ran.scan;
-            return (None, self);
-        };
-        self.stands = raw::Scan {
-            index,
-            value,
-            ..ran.scan
-        };
-        (Some(value), self)
+        let rest = self.ahead.fill(places, |out| run(column, scan, out));
+        let value = self.ahead.take();
+        if let Some(value) = value {
+            self.stands = raw::Scan {
+                index,
+                value,
+                state: raw::AT,
+                found: 1,
+                ..scan
+            };
+        }
+        (value, rest)
+    }
+}
+
+impl Seeker for Scan<'_> {
+    type Stands = raw::Scan;
+
+    fn stands(&self) -> raw::Scan {
+        self.stands
+    }
+
+    fn goes_to(&mut self, scan: raw::Scan) {
+        Scan::goes_to(self, scan);
+    }
+
+    fn places(&self) -> usize {
+        Ahead::places(self.column.starts().len())
+    }
+
+    fn seeks(&self, targets: &[i64], out: &mut [i64]) -> (u64, u32, raw::Scan) {
+        let ran = seeks(self.column, self.stands, targets, out);
+        (ran.count, ran.refusal, ran.scan)
     }
 }
 
@@ -90,12 +128,7 @@ fn nexts(column: Column<'_>, scan: raw::Scan, out: &mut [i64]) -> raw::Ran {
     raw::scan_next_run(scan, column.starts(), column.ends(), column.steps(), out)
 }
 
-pub(super) fn seeks(
-    column: Column<'_>,
-    scan: raw::Scan,
-    targets: &[i64],
-    out: &mut [i64],
-) -> raw::Ran {
+fn seeks(column: Column<'_>, scan: raw::Scan, targets: &[i64], out: &mut [i64]) -> raw::Ran {
     raw::scan_seek_run(
         scan,
         column.starts(),
