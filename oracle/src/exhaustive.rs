@@ -130,7 +130,11 @@ fn scans_by_hand(bench: &mut Bench, length: u64, tally: &mut Tally) {
         Call::SeekRun(vec![], 0),
         Call::SeekRun(vec![5, 6], 1),
         Call::FilterNext(lists.clone()),
-        Call::FilterSeek(5, lists),
+        Call::FilterSeek(5, lists.clone()),
+        Call::FilterNextRun(lists.clone(), 0),
+        Call::FilterNextRun(lists.clone(), 3),
+        Call::FilterSeekRun(vec![], lists.clone(), 0),
+        Call::FilterSeekRun(vec![5, 6], lists, 1),
         Call::FilterCurrent,
         Call::FilterReset,
     ];
@@ -171,6 +175,11 @@ pub fn limits(tally: &mut Tally) {
                         calls.extend([Call::FilterNext(lists.clone()), Call::FilterSeek(target, lists.clone())]);
                     }
                     calls.extend([Call::FilterReset, Call::FilterNext(Lists::default()), Call::FilterNext(lists.clone())]);
+                    for _ in 0..2 {
+                        calls.extend([Call::FilterNextRun(lists.clone(), 2), Call::FilterSeekRun(vec![31], lists.clone(), 1)]);
+                        calls.push(Call::FilterReset);
+                    }
+                    calls.extend([Call::FilterSeekRun(vec![], lists.clone(), 0), Call::FilterNextRun(lists.clone(), 0)]);
                     sequence(&mut bench, &calls, tally);
                 }
             }
@@ -285,6 +294,7 @@ fn constants(bench: &mut Bench, window: (u64, u64), stood: &[Call], values: &[i6
             let mut before = stood.to_vec();
             before.push(Call::FilterNew(Wins::Inclusive, lower.clone(), upper));
             tree(bench, window, &before, &alphabet, depth, tally);
+            runs_of_sifting(bench, window, &before, values, &Lists::default(), tally);
         }
     }
     // The same value both ways, and lists in every order, in both modes.
@@ -296,6 +306,7 @@ fn constants(bench: &mut Bench, window: (u64, u64), stood: &[Call], values: &[i6
                 let mut before = stood.to_vec();
                 before.push(Call::FilterNew(wins, pair.0.clone(), pair.1.clone()));
                 tree(bench, window, &before, &alphabet, depth, tally);
+                runs_of_sifting(bench, window, &before, values, &Lists::default(), tally);
             }
         }
     }
@@ -332,6 +343,22 @@ fn variables(bench: &mut Bench, window: (u64, u64), stood: &[Call], values: &[i6
         let mut before = stood.to_vec();
         before.push(Call::FilterNew(Wins::Exclusive, vec![], vec![folded[i % 2]]));
         tree(bench, window, &before, &alphabet, depth.min(2), tally);
+        runs_of_sifting(bench, window, &before, values, one, tally);
+    }
+}
+
+/// Runs of a filter's calls with these lists, from where it stands after `before`, from the first call after that and from past the end: of nexts, none, one,
+/// two and more than there are; of seeks of every two of three values, rising or not, and of all values, into room that is right, longer or one short.
+fn runs_of_sifting(bench: &mut Bench, window: (u64, u64), before: &[Call], values: &[i64], lists: &Lists, tally: &mut Tally) {
+    let few = [values[0], values[values.len() / 2], values[values.len() - 1]];
+    let seeks = |targets: Vec<i64>, places| Call::FilterSeekRun(targets, lists.clone(), places);
+    let nexts = [0, 1, 2, 9].map(|places| Call::FilterNextRun(lists.clone(), places));
+    let pairs = few.iter().flat_map(|&a| few.iter().map(move |&b| seeks(vec![a, b], 2)));
+    let rooms = [values.len() + 2, values.len() - 1, 0].map(|places| seeks(values.to_vec(), places));
+    let calls: Vec<Call> = nexts.iter().cloned().chain(pairs).chain(rooms).chain([seeks(vec![], 0)]).collect();
+    for first in [None, Some(&nexts[1]), Some(&nexts[3])] {
+        let before: Vec<Call> = before.iter().chain(first).cloned().collect();
+        tree(bench, window, &before, &calls, 1, tally);
     }
 }
 

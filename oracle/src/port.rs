@@ -160,8 +160,16 @@ impl Session {
                 }
             }
             Call::Reset => done(self.moved(raw::scan_reset(scan, starts, ends, steps))),
-            Call::NextRun(places) => self.ran(*places, |out| raw::scan_next_run(scan, starts, ends, steps, out)),
-            Call::SeekRun(targets, places) => self.ran(*places, |out| raw::scan_seek_run(scan, starts, ends, steps, targets, out)),
+            Call::NextRun(places) => ran(*places, |out| {
+                let r = raw::scan_next_run(scan, starts, ends, steps, out);
+                self.stands(r.scan);
+                (r.refusal, r.count)
+            }),
+            Call::SeekRun(targets, places) => ran(*places, |out| {
+                let r = raw::scan_seek_run(scan, starts, ends, steps, targets, out);
+                self.stands(r.scan);
+                (r.refusal, r.count)
+            }),
             Call::Narrow(start, end) => done(self.moved(raw::scan_narrow(scan, starts, ends, steps, *start, *end))),
             Call::FilterNew(wins, lower, upper) => {
                 desk.constants(0, lower);
@@ -181,6 +189,16 @@ impl Session {
                 let f = self.held();
                 self.sifted(raw::filter_seek(f, starts, ends, steps, *target, desk.variables(lists)))
             }
+            Call::FilterNextRun(lists, places) => ran(*places, |out| {
+                let r = raw::filter_next_run(self.held(), starts, ends, steps, desk.variables(lists), out);
+                self.filter = Some(r.filter);
+                (r.refusal, r.count)
+            }),
+            Call::FilterSeekRun(targets, lists, places) => ran(*places, |out| {
+                let r = raw::filter_seek_run(self.held(), starts, ends, steps, targets, desk.variables(lists), out);
+                self.filter = Some(r.filter);
+                (r.refusal, r.count)
+            }),
             Call::FilterCurrent => answer(raw::filter_current(self.held())),
             Call::FilterReset => {
                 let r = raw::filter_reset(self.held());
@@ -232,18 +250,6 @@ impl Session {
         answer(m.answer)
     }
 
-    /// A run of calls into so many places, filled beforehand; those beyond its values, and all after a refusal, must hold that still.
-    fn ran(&mut self, places: usize, run: impl FnOnce(&mut [i64]) -> raw::Ran) -> Said {
-        let mut out = vec![OUT; places];
-        let ran = run(&mut out);
-        self.stands(ran.scan);
-        let count = ran.count as usize;
-        assert!(ran.refusal == 0 || count == 0, "values and a refusal");
-        untouched(&out[count..], OUT);
-        out.truncate(count);
-        if ran.refusal == 0 { Said::Ran(out) } else { Said::Refused(ran.refusal) }
-    }
-
     fn sifted(&mut self, s: raw::Sifted) -> Said {
         self.filter = Some(s.filter);
         answer(s.answer)
@@ -285,6 +291,18 @@ fn done(said: Said) -> Said {
         Said::None => Said::Ok,
         other => other,
     }
+}
+
+/// A run of calls into so many places, filled beforehand, which gives refusal and count; places beyond its values, and all after a refusal, must hold that
+/// still.
+fn ran(places: usize, run: impl FnOnce(&mut [i64]) -> (u32, u64)) -> Said {
+    let mut out = vec![OUT; places];
+    let (refusal, count) = run(&mut out);
+    let count = count as usize;
+    assert!(refusal == 0 || count == 0, "values and a refusal");
+    untouched(&out[count..], OUT);
+    out.truncate(count);
+    if refusal == 0 { Said::Ran(out) } else { Said::Refused(refusal) }
 }
 
 // The calls that the port adds, each with its outputs filled beforehand; places beyond the answer, and all after a refusal, must hold that still.

@@ -168,7 +168,7 @@ fn call(d: &mut Dice, c: &model::Column, values: &[i64], filter: bool) -> Call {
     }
 }
 
-/// Runs of calls in place of some single ones, on the same column: of nexts, mostly few, and of seeks, rising or not, into room that is right, long or short.
+/// Runs of calls in place of some single ones, of the scan and of the filter, on the same column: of nexts, mostly few, and of seeks.
 pub fn with_runs(d: &mut Dice, c: &model::Column, calls: &mut [Call]) {
     let most = (2 * c.runs.ends.len() as u64 + 9).min(400);
     for call in calls {
@@ -177,19 +177,33 @@ pub fn with_runs(d: &mut Dice, c: &model::Column, calls: &mut [Call]) {
             1 => d.below(most),
             _ => d.below(9),
         };
-        match call {
-            Call::Next if d.once_in(2) => *call = Call::NextRun(n as usize),
-            Call::Seek(_) if d.once_in(2) => {
-                let mut targets: Vec<i64> = (0..n).map(|_| value(d, c)).collect();
-                if !d.once_in(4) {
-                    targets.sort_unstable();
-                }
-                let places = targets.len().saturating_add_signed(d.pick(&[0, 0, 0, 0, 3, -1, -3, -1000]));
-                *call = Call::SeekRun(targets, places);
+        if d.once_in(2) {
+            continue;
+        }
+        *call = match call {
+            Call::Next => Call::NextRun(n as usize),
+            Call::Seek(_) => {
+                let (targets, places) = targets(d, c, n);
+                Call::SeekRun(targets, places)
             }
-            _ => {}
+            Call::FilterNext(lists) => Call::FilterNextRun(std::mem::take(lists), n as usize),
+            Call::FilterSeek(_, lists) => {
+                let (targets, places) = targets(d, c, n);
+                Call::FilterSeekRun(targets, std::mem::take(lists), places)
+            }
+            _ => continue,
         }
     }
+}
+
+/// So many targets, rising or not, and room for their answers that is right, long or short.
+fn targets(d: &mut Dice, c: &model::Column, n: u64) -> (Vec<i64>, usize) {
+    let mut targets: Vec<i64> = (0..n).map(|_| value(d, c)).collect();
+    if !d.once_in(4) {
+        targets.sort_unstable();
+    }
+    let places = targets.len().saturating_add_signed(d.pick(&[0, 0, 0, 0, 3, -1, -3, -1000]));
+    (targets, places)
 }
 
 /// Values that inputs may have.
@@ -248,7 +262,8 @@ pub fn with_ties(d: &mut Dice, calls: &mut [Call], strict: bool) {
                     tied(d, ups);
                 }
             }
-            Call::FilterNext(l) | Call::FilterSeek(_, l) => {
+            call => {
+                let Some(l) = call.lists_mut() else { continue };
                 if lower {
                     tied(d, &mut l.lower);
                 }
@@ -256,7 +271,6 @@ pub fn with_ties(d: &mut Dice, calls: &mut [Call], strict: bool) {
                     tied(d, &mut l.upper);
                 }
             }
-            _ => {}
         }
     }
 }
@@ -322,6 +336,9 @@ pub fn round(d: &mut Dice, most: u64, tally: &mut Tally) {
     for strict in [true, true, true, false] {
         let mut calls = calls_of(d, &c, &values, if big { 20 } else { 40 }, "mixed");
         with_ties(d, &mut calls, strict);
+        if d.once_in(2) {
+            with_runs(d, &c, &mut calls);
+        }
         sequence(&mut bench, &calls, tally);
         if tally.full() {
             return;

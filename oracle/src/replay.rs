@@ -220,9 +220,7 @@ pub fn mode(text: &str) -> Mode {
 fn input_values(case: &Case) -> Vec<i64> {
     let mut values: Vec<i64> = Vec::new();
     for line in &case.lines {
-        if let Call::FilterNext(l) | Call::FilterSeek(_, l) = &line.call {
-            values.extend(l.inputs.iter().flatten());
-        }
+        values.extend(line.call.lists().iter().flat_map(|l| l.inputs.iter().flatten()));
     }
     values.sort_unstable();
     values.dedup();

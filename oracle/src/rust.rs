@@ -129,18 +129,10 @@ impl<'a> Session<'a> {
                 self.filter = Some(Filter { made, lower: lower.clone(), upper: upper.clone(), lists, before: true });
                 Said::Ok
             }
-            Call::FilterNext(lists) => {
-                self.hand_over(lists);
-                let filter = self.filter();
-                filter.before = false;
-                said(filter.made.next())
-            }
-            Call::FilterSeek(target, lists) => {
-                self.hand_over(lists);
-                let filter = self.filter();
-                filter.before = false;
-                said(filter.made.seek(*target))
-            }
+            Call::FilterNext(lists) => said(self.sift(None, lists)),
+            Call::FilterSeek(target, lists) => said(self.sift(Some(*target), lists)),
+            Call::FilterNextRun(lists, places) => Said::Ran((0..*places).map_while(|_| self.sift(None, lists)).collect()),
+            Call::FilterSeekRun(targets, lists, _) => Said::Ran(targets.iter().map_while(|t| self.sift(Some(*t), lists)).collect()),
             Call::FilterCurrent => said(self.filter().made.current()),
             Call::FilterReset => {
                 let filter = self.filter();
@@ -149,6 +141,17 @@ impl<'a> Session<'a> {
                 Said::Ok
             }
             _ => unreachable!("no call of a scan or filter"),
+        }
+    }
+
+    /// The filter's `next`, or its `seek` of a target.
+    fn sift(&mut self, target: Option<i64>, lists: &Lists) -> Option<i64> {
+        self.hand_over(lists);
+        let filter = self.filter();
+        filter.before = false;
+        match target {
+            Some(target) => filter.made.seek(target),
+            None => filter.made.next(),
         }
     }
 

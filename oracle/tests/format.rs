@@ -15,13 +15,13 @@ fn differences(text: &str) -> Vec<String> {
 }
 
 /// P1 to P12, document 02's places, the cases of request 4, scans that do not carry what they stand on, cuts and chained seeks, runs of
-/// calls, with every side that is there.
+/// calls on a scan and on a filter, with every side that is there.
 #[test]
 fn examples_of_the_documents() {
     let cases = corpus::cases(EXAMPLES).expect("the examples");
-    assert_eq!(cases.len(), 47);
+    assert_eq!(cases.len(), 51);
     let lines: usize = cases.iter().map(|c| c.lines.len()).sum();
-    assert_eq!(lines, 252);
+    assert_eq!(lines, 280);
     assert_eq!(differences(EXAMPLES), Vec::<String>::new());
 }
 
@@ -50,7 +50,7 @@ fn every_call_reads_back() {
     let listing = Listing { to: vec![1, 2], counts: 5, ..Listing::default() };
     for call in [
         Call::FilterNext(lists.clone()),
-        Call::FilterSeek(-5, lists),
+        Call::FilterSeek(-5, lists.clone()),
         Call::FilterCurrent,
         Call::FilterReset,
         Call::Current,
@@ -69,6 +69,9 @@ fn every_call_reads_back() {
         Call::Read(vec![], [1, 2, 3]),
         Call::NextRun(usize::MAX),
         Call::SeekRun(vec![i64::MIN, 4], 0),
+        Call::FilterNextRun(lists.clone(), 3),
+        Call::FilterSeekRun(vec![i64::MAX], lists.clone(), usize::MAX),
+        Call::FilterSeekRun(vec![], Lists::default(), 0),
         Call::Diff(i64::MIN, i64::MAX),
     ] {
         assert_eq!(corpus::call(&call.to_string()), Ok(call.clone()), "{call}");

@@ -87,6 +87,9 @@ pub enum Call {
     FilterSeek(i64, Lists),
     FilterCurrent,
     FilterReset,
+    /// Runs of the filter's calls, with the lists handed over once, and the places of the output last.
+    FilterNextRun(Lists, usize),
+    FilterSeekRun(Vec<i64>, Lists, usize),
     Check,
     Place(u64),
     Element(u64),
@@ -144,6 +147,22 @@ impl Scan {
 
 impl Call {
     pub fn is_filter(&self) -> bool {
-        matches!(self, Call::FilterNew(..) | Call::FilterNext(_) | Call::FilterSeek(..) | Call::FilterCurrent | Call::FilterReset)
+        matches!(self, Call::FilterNew(..) | Call::FilterCurrent | Call::FilterReset) || self.lists().is_some()
+    }
+
+    /// The variable bounds and inputs that a filter's call is handed.
+    pub fn lists(&self) -> Option<&Lists> {
+        match self {
+            Call::FilterNext(l) | Call::FilterSeek(_, l) | Call::FilterNextRun(l, _) | Call::FilterSeekRun(_, l, _) => Some(l),
+            _ => None,
+        }
+    }
+
+    /// The same, to be changed.
+    pub fn lists_mut(&mut self) -> Option<&mut Lists> {
+        match self {
+            Call::FilterNext(l) | Call::FilterSeek(_, l) | Call::FilterNextRun(l, _) | Call::FilterSeekRun(_, l, _) => Some(l),
+            _ => None,
+        }
     }
 }

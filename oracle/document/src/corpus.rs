@@ -1,5 +1,6 @@
 //! The text format of call sequences and answers (documents CORPUS and CORPUS2): printing, and reading any file of that format. A run of calls, which they
-//! do not have, is `nextrun <places>` and `seekrun <targets> <places>`, its answer `n <n> out <list>` and the scan after it.
+//! do not have, is `nextrun <places>` and `seekrun <targets> <places>`, its answer `n <n> out <list>` and the scan after it; of a filter `fnextrun <vlower>
+//! <vupper> <inputs> <places>` and `fseekrun <targets> <vlower> <vupper> <inputs> <places>`.
 use crate::calls::*;
 use crate::model::Sieve;
 use std::fmt::Display;
@@ -107,6 +108,8 @@ impl Display for Call {
             Call::FilterSeek(t, l) => write!(f, "fseek {t} {l}"),
             Call::FilterCurrent => f.write_str("fcurrent"),
             Call::FilterReset => f.write_str("freset"),
+            Call::FilterNextRun(l, p) => write!(f, "fnextrun {l} {p}"),
+            Call::FilterSeekRun(t, l, p) => write!(f, "fseekrun {} {l} {p}", list(t)),
             Call::Check => f.write_str("check"),
             Call::Place(i) => write!(f, "place {i}"),
             Call::Element(i) => write!(f, "element {i}"),
@@ -292,6 +295,8 @@ pub fn call(text: &str) -> Parsed<Call> {
         ["fseek", t, l, u, i] => Call::FilterSeek(number(t)?, lists(&[l, u, i])?),
         ["fcurrent"] => Call::FilterCurrent,
         ["freset"] => Call::FilterReset,
+        ["fnextrun", l, u, i, p] => Call::FilterNextRun(lists(&[l, u, i])?, number(p)?),
+        ["fseekrun", t, l, u, i, p] => Call::FilterSeekRun(numbers(t)?, lists(&[l, u, i])?, number(p)?),
         ["check"] => Call::Check,
         ["place", i] => Call::Place(number(i)?),
         ["element", i] => Call::Element(number(i)?),

@@ -249,8 +249,10 @@ impl<'a> Session<'a> {
                 self.filter = Some(Sieve { lower, upper, wins: *wins, mode: Mode::Before });
                 Said::Ok
             }
-            Call::FilterNext(lists) => self.sift(None, lists)?,
-            Call::FilterSeek(target, lists) => self.sift(Some(*target), lists)?,
+            Call::FilterNext(lists) => said(self.sift(None, lists)?),
+            Call::FilterSeek(target, lists) => said(self.sift(Some(*target), lists)?),
+            Call::FilterNextRun(lists, places) => self.sifts((0..*places).map(|_| None), lists, *places)?,
+            Call::FilterSeekRun(targets, lists, places) => self.sifts(targets.iter().map(|t| Some(*t)), lists, *places)?,
             Call::FilterCurrent => {
                 // "the filter's the same when Within, else none"
                 let carried = self.carried()?;
@@ -345,8 +347,23 @@ impl<'a> Session<'a> {
         self.stand(found)
     }
 
+    /// Request 20, of the filter: "the same two, the lists of variable bounds and inputs handed over once and read by the first call of the run if the
+    /// filter is Before"; "a run of no calls changes nothing and is still checked".
+    fn sifts(&mut self, targets: impl Iterator<Item = Option<i64>>, lists: &Lists, places: usize) -> Outcome<Said> {
+        self.clone().sift(None, lists)?;
+        let mut after = *self;
+        let mut values = Vec::new();
+        for target in targets {
+            let Some(value) = after.sift(target, lists)? else { break };
+            values.push(value);
+        }
+        refuse_if(values.len() > places, ROOM)?;
+        *self = after;
+        Ok(Said::Ran(values))
+    }
+
     /// `next` (no target) and `seek` of the filter.
-    fn sift(&mut self, target: Option<i64>, lists: &Lists) -> Outcome<Said> {
+    fn sift(&mut self, target: Option<i64>, lists: &Lists) -> Outcome<Option<i64>> {
         self.tried()?;
         refuse_if(lists.lower.len() > 16 || lists.upper.len() > 16 || lists.inputs.len() > 8, BOUNDS)?;
         self.ordered()?;
@@ -381,8 +398,8 @@ impl<'a> Session<'a> {
         };
         self.filter = Some(Sieve { mode, ..sieve });
         Ok(match mode {
-            Mode::Within(_) => said(self.scan.value),
-            _ => Said::None,
+            Mode::Within(_) => self.scan.value,
+            _ => None,
         })
     }
 
