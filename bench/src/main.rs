@@ -35,6 +35,7 @@ mod page;
 mod plain;
 mod record;
 mod runs;
+mod sifting;
 
 use clock::Clock;
 
@@ -56,6 +57,7 @@ fn main() {
     checks::measure(&mut clock);
     calls::measure(&mut clock);
     runs::measure(&mut clock);
+    sifting::measure(&mut clock);
     record::measure(&mut clock);
     let table = page::table(&clock);
     println!("{table}");

@@ -72,8 +72,28 @@ pub fn fill(starts: &[i64], ends: &[u64], steps: &[i16], first: u64, beyond: u64
 /// What a seek of each rising target in turn gives: the run is walked on to, then one division, or none. How many there are, up to the first none.
 #[inline(never)]
 pub fn merge(starts: &[i64], ends: &[u64], steps: &[i16], targets: &[i64], out: &mut [i64]) -> usize {
+    merged(starts, ends, steps, targets, out, |target| target, |_| false)
+}
+
+/// The same of a filter, from one value up to and with another.
+#[inline(never)]
+pub fn merge_within(starts: &[i64], ends: &[u64], steps: &[i16], targets: &[i64], (low, high): (i64, i64), out: &mut [i64]) -> usize {
+    merged(starts, ends, steps, targets, out, |target| target.max(low), |value| value > high)
+}
+
+#[inline(always)]
+fn merged(
+    starts: &[i64],
+    ends: &[u64],
+    steps: &[i16],
+    targets: &[i64],
+    out: &mut [i64],
+    raised: impl Fn(i64) -> i64,
+    beyond: impl Fn(i64) -> bool,
+) -> usize {
     let (mut run, mut first, mut at) = (0, 0, 0);
     for (count, (&target, place)) in targets.iter().zip(&mut *out).enumerate() {
+        let target = raised(target);
         while target > starts[run] + i64::from(steps[run]) * (ends[run] - first - 1) as i64 {
             first = ends[run];
             run += 1;
@@ -90,7 +110,11 @@ pub fn merge(starts: &[i64], ends: &[u64], steps: &[i16], targets: &[i64], out: 
             _ => (over + step as u64 - 1) / step as u64,
         };
         at = offset.max(at);
-        *place = start + step * at as i64;
+        let value = start + step * at as i64;
+        if beyond(value) {
+            return count;
+        }
+        *place = value;
     }
     targets.len()
 }

@@ -9,13 +9,13 @@ use crate::plain;
 use loftsplice::{Column, raw};
 use std::hint::black_box;
 
-const ELEMENTS: u64 = 1_000_000;
+pub const ELEMENTS: u64 = 1_000_000;
 
-fn size(runs: &Runs) -> String {
+pub fn size(runs: &Runs) -> String {
     format!("{} runs, {} elements", runs.ends.len(), grouped(runs.len()))
 }
 
-fn fresh(runs: &Runs) -> raw::Scan {
+pub fn fresh(runs: &Runs) -> raw::Scan {
     raw::scan_new(&runs.starts, &runs.ends, &runs.steps).scan
 }
 
@@ -81,9 +81,14 @@ fn seeks(column: &ColumnRle<i64>, targets: &[i64], out: &mut [i64]) -> u64 {
     count
 }
 
-/// Targets from the first element on, so far apart, a million at most, none above the last element.
+/// Targets from the first element on, so far apart.
 fn targets(runs: &Runs, apart: usize) -> Vec<i64> {
-    (runs.at(0)..=runs.at(runs.len() - 1)).step_by(apart).take(ELEMENTS as usize).collect()
+    targets_in(runs.at(0), runs.at(runs.len() - 1), apart)
+}
+
+/// Targets from one number on, so far apart, a million at most, none above another.
+pub fn targets_in(from: i64, to: i64, apart: usize) -> Vec<i64> {
+    (from..=to).step_by(apart).take(ELEMENTS as usize).collect()
 }
 
 fn run_of_seeks(clock: &mut Clock, runs: &Runs, apart: usize, word: &str) {
@@ -109,7 +114,7 @@ fn run_of_seeks(clock: &mut Clock, runs: &Runs, apart: usize, word: &str) {
     );
 }
 
-fn lent(runs: &Runs) -> Column<'_> {
+pub fn lent(runs: &Runs) -> Column<'_> {
     Column::new(&runs.starts, &runs.ends, &runs.steps).expect("a column")
 }
 
