@@ -1,0 +1,34 @@
+-- Which of some numbers a column carries: "a log is on the list of filled logs exactly if it was asked for and is not in the column". Assumes nothing.
+use Prim.Native.Nat.{ℕ}
+use mathlib.Core.Bool.{Bool, cond, not}
+use mathlib.Core.List.{List, map}
+use lib.Dec.{ltb}
+use lib.IntN.{ℤ}
+use lib.ListN.{length}
+use Rattle.ranges.specs.Ranges.{firstFrom}
+use Rattle.meaning.specs.declared.Refusal.{Refusal}
+use Rattle.meaning.specs.declared.Refusal.the-variants.{Order, Room}
+use Rattle.meaning.specs.Refusals.{Word, fine, Said, Gives, Number, also, judged}
+use Rattle.meaning.specs.Sequence.{Sequence, Source, onSource, sameZ, rises}
+
+-- the first index whose element is k; the length, where there is none
+abbrev pub indexOf : Sequence → ℤ → ℕ
+indexOf q k = firstFrom (λ i. sameZ (q .at i) k) 0 (q .size)
+
+-- "some element of the column is k"
+unfoldable pub carries : Sequence → ℤ → Bool
+carries q k = ltb (indexOf q k) (q .size)
+
+-- a number's flag: 1 if it is carried, 0 if it is filled
+abbrev pub flagOf : Sequence → ℤ → ℕ
+flagOf q k = cond (carries q k) 1 0
+
+abbrev pub flagsOf : Sequence → List ℤ → List ℕ
+flagsOf q ks = map (flagOf q) ks
+
+-- 1, 2, 3, 7 as a seek on a new scan, then 10 where there are fewer places than numbers
+abbrev pub onNumbers : Source → List ℤ → ℕ → Refusal → Bool
+onNumbers p ks places = also Room (ltb places (length ks)) (also Order (not (rises (p .sequence) 0 (p .sequence .size))) (onSource p))
+
+unfoldable pub carriedOf : Source → List ℤ → ℕ → Said Word
+carriedOf p ks places = judged Number (onNumbers p ks places) (Gives fine)
