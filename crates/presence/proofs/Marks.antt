@@ -108,8 +108,10 @@ module _ (p : Source) (ks : List ℤ) (places : ℕ) (s : Scan) (is : s ≡ fres
   vs = seeksFrom q ks s .values
 
   marked : (j : ℕ) → j < length ks → (ltb j (length vs) && sameZ (getD vs j (pos 0)) (getD ks j (pos 0))) ≡ carries q (getD ks j (pos 0))
-  marked j l = same-test _ _ (λ t. carries-exactly-if q k .1 (found .0 (at ∙ told (ltb j (length vs)) (getD vs j (pos 0)) k .0 t)),
-      λ t. told (ltb j (length vs)) (getD vs j (pos 0)) k .1 (sym at ∙ found .1 (carries-exactly-if q k .0 t)))
+  marked j l = same-test _ _ (
+    λ t. carries-exactly-if q k .1 (found .0 (at ∙ told (ltb j (length vs)) (getD vs j (pos 0)) k .0 t)),
+    λ t. told (ltb j (length vs)) (getD vs j (pos 0)) k .1 (sym at ∙ found .1 (carries-exactly-if q k .0 t)),
+  )
     where
       k : ℤ
       k = getD ks j (pos 0)

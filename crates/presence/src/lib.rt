@@ -7,7 +7,7 @@ ghost use lib.ListN.{length};
 ghost use Rattle.meaning.specs.Column.{endBefore};
 ghost use Rattle.meaning.specs.Contracts.{Leaves, sequence, source};
 ghost use Rattle.checked.specs.Says.{saysChecked};
-ghost use Rattle.loftsplice.specs.Scan.{fresh};
+ghost use Rattle.loftsplice.specs.Scan.{saysPosition, fresh, seekOf, posOf};
 ghost use Rattle.theorems.specs.Audit.{ascending};
 ghost use Rattle.presence.specs.Presence.{flagsOf, carriedOf};
 ghost use Rattle.presence.specs.Inner.{Stretch, markAt, marks};
@@ -16,6 +16,7 @@ use loftsplice::running::Counted;
 use loftsplice::running::Footed;
 use loftsplice::running::find_footing;
 use loftsplice::scan::Carried;
+use loftsplice::scan::Position;
 use loftsplice::scan::Scan;
 use loftsplice::scan::State;
 use meaning::Refusal;
@@ -25,7 +26,11 @@ use run_calls::seek_run;
 fn whole(ends: &[u64]) -> Scan
     ensures { λ r. ⌜ r ≡ fresh 0 (endBefore (now (ends .entry)) (length (now (ends .entry)))) ⌝ }
 {
-    let end = if ends.len() == 0 { 0 } else { ends[ends.len() - 1] };
+    let end = if ends.len() == 0 {
+        0
+    } else {
+        ends[ends.len() - 1]
+    };
     Scan {
         start: 0,
         end,
@@ -120,13 +125,7 @@ fn carried_all(
     let mut i = 0;
     loop {
         let n = stretch(&numbers[i..]);
-        let part = carried_in(
-            starts,
-            ends,
-            steps,
-            &numbers[i..i + n],
-            &mut flags[i..],
-        );
+        let part = carried_in(starts, ends, steps, &numbers[i..i + n], &mut flags[i..]);
         if let Checked::Refused(why) = part {
             return Checked::Refused(why);
         }
@@ -165,4 +164,14 @@ pub fn carried(
         return no_room(starts, ends, steps, numbers, flags.len());
     }
     carried_all(starts, ends, steps, numbers, flags)
+}
+
+// The index at which a seek of a number by a new scan stands: that of the number, if it is carried. Refused 1, 2, 3.
+pub fn index(starts: &[i64], ends: &[u64], steps: &[i16], number: i64) -> Position
+    ensures { λ r. ⌜ saysPosition r ≡ posOf (source starts ends steps) (seekOf (source starts ends steps) number (fresh 0 (sequence starts ends steps .size)) .scan) ⌝ }
+{
+    let scan = whole(ends);
+    let moved = scan.seek(starts, ends, steps, number);
+    let at = moved.scan;
+    at.pos(starts, ends, steps)
 }

@@ -60,9 +60,11 @@ module _ (c : tie.After-counted2) where
 mark-requires : tie.Need-mark-requires
 mark-requires c κs =
     let at-counted = c .before .before .before in
-    let at-run = r at-counted in
-    (values-inside (p at-run) (s at-run .args .numbers .now) _ (at-run .before .before .whole .ensures) (s at-run .pre .1) _ (replicate 512 (pos 0)) _ _ (at-run .seek-run .ensures .0) (at-run .seek-run .ensures .1)
-    (ap saysCounted (at-counted .counted2 .given .1)), s at-run .pre .0 .1)
+    let at-run = r at-counted in (
+      values-inside (p at-run) (s at-run .args .numbers .now) _ (at-run .before .before .whole .ensures) (s at-run .pre .1) _ (replicate 512 (pos 0)) _ _ (at-run .seek-run .ensures .0) (at-run .seek-run .ensures .1)
+          (ap saysCounted (at-counted .counted2 .given .1)),
+      s at-run .pre .0 .1,
+    )
 
 returns : tie.Need-returns
 returns c =
