@@ -3,11 +3,12 @@ ghost use Prim.Native.Nat.{_+_, _≤_};
 use crate::numbered::from_arguments;
 use crate::numbered::from_lines;
 use crate::order::order;
-use loftsplice::scan::Made;
+use checked::Checked;
 use loftsplice::scan::Position;
-use loftsplice::scan::Scan;
 use meaning::Answer;
 use meaning::Refusal;
+use presence::carried;
+use presence::index;
 use telling::forms::closed;
 use telling::forms::lead;
 use telling::forms::next;
@@ -28,35 +29,57 @@ pub const FILLED_SUM: usize = 1;
 pub const ROWS: usize = 2;
 
 enum Found {
-    Carried(u64),
+    At(u64),
+    // its index is not asked for
+    Carried,
     Filled,
     Refused(Refusal),
 }
 
-// A number that was met stands at an index. (That there is none can't be, and is not taken for filled.)
+// A number that is carried stands at an index. (That there is none can't be, and is not taken for filled.)
 fn met(position: Position) -> Found {
     match position {
-        Position::Index(i) => Found::Carried(i),
+        Position::Index(i) => Found::At(i),
         Position::None => Found::Refused(Refusal::Scan),
         Position::Refused(why) => Found::Refused(why),
     }
 }
 
-// A seek by a fresh scan: the number is carried exactly if the seek answers the number itself.
-fn sought(starts: &[i64], ends: &[u64], steps: &[i16], scan: Scan, k: i64) -> Found {
-    let moved = scan.seek(starts, ends, steps, k);
-    let answer = moved.answer;
-    let at = moved.scan;
-    match answer {
-        Answer::Refused(why) => Found::Refused(why),
-        Answer::None => Found::Filled,
-        Answer::Value(value) => {
-            if value == k {
-                return met(at.pos(starts, ends, steps));
-            }
-            Found::Filled
-        }
+// What the flag of a number says. The index costs a seek, and is asked for only where it is written.
+fn told(
+    starts: &[i64],
+    ends: &[u64],
+    steps: &[i16],
+    k: i64,
+    flag: u8,
+    places: &[usize; 16],
+) -> Found {
+    if flag == 0 {
+        return Found::Filled;
     }
+    if places[FILLED] != 0 {
+        return Found::Carried;
+    }
+    if places[COUNT] != 0 {
+        return Found::Carried;
+    }
+    met(index(starts, ends, steps, k))
+}
+
+// The flags of the first so many numbers.
+fn flagged(
+    starts: &[i64],
+    ends: &[u64],
+    steps: &[i16],
+    numbers: &[i64; 512],
+    n: usize,
+    flags: &mut [u8; 512],
+) -> Checked {
+    let view: &[i64] = numbers;
+    if n < 512 {
+        return carried(starts, ends, steps, &view[..n], flags);
+    }
+    carried(starts, ends, steps, view, flags)
 }
 
 // One more in a place of the sums.
@@ -73,7 +96,7 @@ fn led(sums: &mut [u64; 3]) -> u8 {
     if rows == 0 { 91 } else { 44 }
 }
 
-fn carried(
+fn shown(
     k: i64,
     index: u64,
     places: &[usize; 16],
@@ -84,12 +107,6 @@ fn carried(
     ensures { λ r. ⌜ r ≤ at + 110 ⌝ }
 {
     count(sums, CARRIED_SUM);
-    if places[FILLED] != 0 {
-        return at;
-    }
-    if places[COUNT] != 0 {
-        return at;
-    }
     let lead = led(sums);
     rows::carried(places[FORMAT], lead, k, index, buf, at)
 }
@@ -123,7 +140,11 @@ fn row(
     ensures { λ r. ⌜ r ≤ at + 110 ⌝ }
 {
     match found {
-        Found::Carried(index) => carried(k, index, places, sums, buf, at),
+        Found::At(index) => shown(k, index, places, sums, buf, at),
+        Found::Carried => {
+            count(sums, CARRIED_SUM);
+            at
+        }
         Found::Filled => filled(k, places, sums, buf, at),
         Found::Refused(_) => at,
     }
@@ -134,18 +155,22 @@ pub fn answered(
     starts: &[i64],
     ends: &[u64],
     steps: &[i16],
-    scan: Scan,
     numbers: &[i64; 512],
     n: usize,
     places: &[usize; 16],
     sums: &mut [u64; 3],
 ) -> bool {
+    let mut flags = [0u8; 512];
+    if let Checked::Refused(why) = flagged(starts, ends, steps, numbers, n, &mut flags) {
+        printing::refused(why);
+        return false;
+    }
     let mut buf = io::large_buffer();
     let mut at = 0;
     let mut i = 0;
     while i < 512 && i < n {
         let k = numbers[i];
-        let found = sought(starts, ends, steps, scan, k);
+        let found = told(starts, ends, steps, k, flags[i], places);
         if let Found::Refused(why) = found {
             printing::refused(why);
             return false;
@@ -183,25 +208,18 @@ fn ended(places: &[usize; 16], sums: &[u64; 3]) -> bool {
     closed(next(lead(places[FORMAT])))
 }
 
-fn find_by(starts: &[i64], ends: &[u64], steps: &[i16], scan: Scan, places: &[usize; 16]) {
-    let mut sums = [0u64; 3];
-    if places[NUMBERS] == 0 {
-        if from_arguments(starts, ends, steps, scan, places, &mut sums) {
-            ended(places, &sums);
-        }
-    } else if from_lines(starts, ends, steps, scan, places, &mut sums) {
-        ended(places, &sums);
-    }
-}
-
 // A column that does not rise is refused before anything is written.
 pub fn find(starts: &[i64], ends: &[u64], steps: &[i16], places: &[usize; 16]) {
     if let Answer::Refused(why) = order(starts, ends, steps) {
         printing::refused(why);
         return;
     }
-    match Scan::new(starts, ends, steps) {
-        Made::Refused(why) => printing::refused(why),
-        Made::Ready(scan) => find_by(starts, ends, steps, scan, places),
+    let mut sums = [0u64; 3];
+    if places[NUMBERS] == 0 {
+        if from_arguments(starts, ends, steps, places, &mut sums) {
+            ended(places, &sums);
+        }
+    } else if from_lines(starts, ends, steps, places, &mut sums) {
+        ended(places, &sums);
     }
 }

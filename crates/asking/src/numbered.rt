@@ -4,7 +4,6 @@ use crate::finding::FILLED_SUM;
 use crate::finding::answered;
 use crate::finding::headed;
 use crate::opening;
-use loftsplice::scan::Scan;
 use telling::wrong;
 use words::arguments;
 use words::lines::number;
@@ -18,7 +17,6 @@ pub fn from_arguments(
     starts: &[i64],
     ends: &[u64],
     steps: &[i16],
-    scan: Scan,
     places: &[usize; 16],
     sums: &mut [u64; 3],
 ) -> bool {
@@ -30,16 +28,7 @@ pub fn from_arguments(
     while i < count {
         let mut numbers = [0i64; 512];
         let batch = arguments::numbers(places[FILE], i, &mut numbers);
-        if !answered(
-            starts,
-            ends,
-            steps,
-            scan,
-            &numbers,
-            batch.count,
-            places,
-            sums,
-        ) {
+        if !answered(starts, ends, steps, &numbers, batch.count, places, sums) {
             return false;
         }
         let next = batch.next;
@@ -73,7 +62,6 @@ fn last(
     starts: &[i64],
     ends: &[u64],
     steps: &[i16],
-    scan: Scan,
     places: &[usize; 16],
     line: &[u8; 64],
     held: usize,
@@ -86,7 +74,7 @@ fn last(
         Signed::Not => no_number(line, held, sums),
         Signed::Is(k) => {
             let numbers = [k; 512];
-            answered(starts, ends, steps, scan, &numbers, 1, places, sums)
+            answered(starts, ends, steps, &numbers, 1, places, sums)
         }
     }
 }
@@ -103,7 +91,6 @@ fn turn(
     starts: &[i64],
     ends: &[u64],
     steps: &[i16],
-    scan: Scan,
     places: &[usize; 16],
     fd: i32,
     line: &mut [u8; 64],
@@ -122,16 +109,7 @@ fn turn(
     let mut numbers = [0i64; 512];
     let lines = split(&chunk, n, line, *held, &mut numbers);
     *held = lines.held;
-    if !answered(
-        starts,
-        ends,
-        steps,
-        scan,
-        &numbers,
-        lines.count,
-        places,
-        sums,
-    ) {
+    if !answered(starts, ends, steps, &numbers, lines.count, places, sums) {
         return Chunk::Stopped;
     }
     if lines.wrong {
@@ -146,7 +124,6 @@ pub fn from_lines(
     starts: &[i64],
     ends: &[u64],
     steps: &[i16],
-    scan: Scan,
     places: &[usize; 16],
     sums: &mut [u64; 3],
 ) -> bool {
@@ -161,19 +138,9 @@ pub fn from_lines(
     let mut held = 0;
     let mut turns = u64::MAX;
     while turns > 0 {
-        match turn(
-            starts,
-            ends,
-            steps,
-            scan,
-            places,
-            fd,
-            &mut line,
-            &mut held,
-            sums,
-        ) {
+        match turn(starts, ends, steps, places, fd, &mut line, &mut held, sums) {
             Chunk::Stopped => return false,
-            Chunk::End => return last(starts, ends, steps, scan, places, &line, held, sums),
+            Chunk::End => return last(starts, ends, steps, places, &line, held, sums),
             Chunk::More => {}
         }
         turns -= 1;

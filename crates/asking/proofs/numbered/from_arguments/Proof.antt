@@ -5,10 +5,10 @@ use Rattle.asking.proofs.numbered.from_arguments.Statement.{statement}
 use Rattle.asking.proofs.numbered.from_arguments.Tie as tie
 
 abbrev Inv-loop : tie.InvT-loop
-Inv-loop starts ends steps scan places sums₀ count i₀ sums i = 2 ≤ i
+Inv-loop starts ends steps places sums₀ count i₀ sums i = 2 ≤ i
 
 abbrev μ-loop : tie.MeasureT-loop
-μ-loop starts ends steps scan places sums₀ count i₀ sums i = count - i
+μ-loop starts ends steps places sums₀ count i₀ sums i = count - i
 
 headed-requires : tie.Need-headed-requires Inv-loop μ-loop
 headed-requires c κs = search needs

@@ -4,10 +4,10 @@ use Rattle.asking.proofs.numbered.from_lines.Statement.{statement}
 use Rattle.asking.proofs.numbered.from_lines.Tie as tie
 
 abbrev Inv-loop : tie.InvT-loop
-Inv-loop starts ends steps scan places sums₀ fd line₀ held₀ turns₀ sums line held turns = Unit {0}
+Inv-loop starts ends steps places sums₀ fd line₀ held₀ turns₀ sums line held turns = Unit {0}
 
 abbrev μ-loop : tie.MeasureT-loop
-μ-loop starts ends steps scan places sums₀ fd line₀ held₀ turns₀ sums line held turns = turns
+μ-loop starts ends steps places sums₀ fd line₀ held₀ turns₀ sums line held turns = turns
 
 element-copy-out-open : tie.Need-element-copy-out-open Inv-loop μ-loop
 element-copy-out-open c = search needs
