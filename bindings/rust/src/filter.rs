@@ -139,15 +139,13 @@ impl<'a> Filter<'a> {
     )]
     #[inline]
     pub fn next(&mut self) -> Result<Option<i64>, Refusal> {
-        self.scan.step().map_or_else(
-            || {
-                // by value, as a scan does
-                let (answer, filter) = self.leave().fetched();
-                *self = filter;
-                answer
-            },
-            |value| Ok(Some(value)),
-        )
+        if let Some(value) = self.scan.step() {
+            return Ok(Some(value));
+        }
+        // by value, as a scan does
+        let (answer, filter) = self.leave().fetched();
+        *self = filter;
+        answer
     }
 
     /// The same with variable bounds, which are read only while the filter is before. It makes one call for one element: once the filter is within, `next`

@@ -292,12 +292,13 @@ impl Iterator for Scan<'_> {
 
     #[inline]
     fn next(&mut self) -> Option<i64> {
-        self.step().or_else(|| {
-            // by value: where no call takes its address, a loop keeps the scan in registers
-            let (answer, scan) = self.leave().fetched();
-            *self = scan;
-            answer
-        })
+        if let Some(value) = self.step() {
+            return Some(value);
+        }
+        // by value: where no call takes its address, a loop keeps the scan in registers
+        let (answer, scan) = self.leave().fetched();
+        *self = scan;
+        answer
     }
 
     fn size_hint(&self) -> (usize, Option<usize>) {
