@@ -295,7 +295,7 @@ impl Iterator for Scan<'_> {
         if let Some(value) = self.step() {
             return Some(value);
         }
-        // by value: where no call takes its address, a loop keeps the scan in registers
+        // by value, and in no closure, which is compiled apart: where no call takes its address, a loop keeps the scan in registers
         let (answer, scan) = self.leave().fetched();
         *self = scan;
         answer
