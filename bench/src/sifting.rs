@@ -79,12 +79,12 @@ fn run_of_nexts(clock: &mut Clock, job: &Job) {
     plain::fill(starts, ends, steps, ASIDE, ASIDE + ELEMENTS, filled);
     assert!(ours == theirs && ours == filled, "the same elements");
     clock.race(
-        "run of a filter's nexts",
+        "filter's run of nexts",
         job.size(),
         ("element", ELEMENTS),
         work(|| next_run(black_box(&job.runs), filter, ours)),
         vec![
-            (Against { name: "the Rust's own filter, next, unchecked", target: Some(0.15) }, work(|| nexts(job, theirs))),
+            (Against { name: "the Rust's filter, unchecked", target: Some(0.15) }, work(|| nexts(job, theirs))),
             (
                 Against { name: "plain fill", target: None },
                 work(|| plain::fill(black_box(starts), ends, steps, ASIDE, ASIDE + ELEMENTS, black_box(filled))),
@@ -124,12 +124,12 @@ fn run_of_seeks(clock: &mut Clock, job: &Job, apart: usize, word: &str) {
     assert_eq!(plain::merge_within(starts, ends, steps, targets, bounds, merged), targets.len());
     assert!(ours == theirs && ours == merged, "the same answers");
     clock.race(
-        "run of a filter's seeks",
+        "filter's run of seeks",
         format!("{}, {word}", job.size()),
         ("target", all),
         work(|| seek_run(black_box(&job.runs), filter, targets, ours)),
         vec![
-            (Against { name: "the Rust's own filter, seek, unchecked", target: Some(0.4) }, work(|| seeks(job, targets, theirs))),
+            (Against { name: "the Rust's filter, unchecked", target: Some(0.4) }, work(|| seeks(job, targets, theirs))),
             (
                 Against { name: "plain merge with the bounds", target: Some(1.3) },
                 work(|| plain::merge_within(black_box(starts), ends, steps, targets, black_box(bounds), merged)),
@@ -162,7 +162,7 @@ fn iterate(clock: &mut Clock, job: &Job) {
         job.size(),
         ("element", ELEMENTS),
         work(ours),
-        vec![(Against { name: "the Rust's own filter, unchecked", target: Some(1.0) }, work(theirs))],
+        vec![(Against { name: "the Rust's filter, unchecked", target: Some(1.0) }, work(theirs))],
     );
 }
 
@@ -181,7 +181,7 @@ fn ask_each(clock: &mut Clock, job: &Job) {
         job.size(),
         ("target", targets.len() as u64),
         work(ours),
-        vec![(Against { name: "the Rust's own filter, seek, unchecked", target: Some(1.0) }, work(theirs))],
+        vec![(Against { name: "the Rust's filter, unchecked", target: Some(1.0) }, work(theirs))],
     );
 }
 
