@@ -102,3 +102,24 @@ pub(crate) fn stay_ordered(scan: Scan, starts: &[i64], ends: &[u64], steps: &[i1
         answer: Answer::None,
     }
 }
+
+// A seek of a scan that is sound for its column, in whatever state: an ended one stays.
+pub(crate) fn seek_from(
+    scan: Scan,
+    starts: &[i64],
+    ends: &[u64],
+    steps: &[i16],
+    at: Spot,
+    target: i64,
+) -> Moved
+    requires { ⌜ sound (columnNow starts ends steps) ≡ true ⌝ }
+    requires { ⌜ badScan (sequenceOf (columnNow starts ends steps)) scan ≡ false ⌝ }
+    requires { ⌜ Stood (now ends) (scan .state) (at .index) (at .place) ⌝ }
+    ensures { λ r. ⌜ outcomeOf r ≡ onOrder (sequence starts ends steps) scan (seekFrom (sequence starts ends steps) target scan (scan .state)) ⌝ }
+{
+    let state = scan.state;
+    if let State::Ended = state {
+        return stay_ordered(scan, starts, ends, steps);
+    }
+    seek_ordered(scan, starts, ends, steps, at, target)
+}

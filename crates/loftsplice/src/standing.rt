@@ -5,10 +5,10 @@ ghost use mathlib.Core.Option.{some, none};
 ghost use Prim.Native.Nat.{_<_};
 ghost use Rattle.meaning.specs.Refusals.{Gives, Number, fine, judged};
 ghost use Rattle.meaning.specs.Column.{sizeOf, elementAt, sound};
-ghost use Rattle.meaning.specs.Contracts.{column, columnNow, source};
+ghost use Rattle.meaning.specs.Contracts.{column, columnNow, sequence, source};
 ghost use Rattle.checked.specs.Says.{saysChecked};
 ghost use Rattle.loftsplice.specs.declared.scan.State.the-variants.{At};
-ghost use Rattle.loftsplice.specs.Scan.{carriedBy, sameValue, onScan};
+ghost use Rattle.loftsplice.specs.Scan.{carriedBy, sameValue, badScan, onScan};
 ghost use Rattle.loftsplice.specs.Inner.{Stood, offIf};
 use crate::rle::Spot;
 use crate::rle::element_at;
@@ -72,35 +72,43 @@ fn check_value(value: Carried, starts: &[i64], ends: &[u64], steps: &[i16], inde
     }
 }
 
-// Fine, or refused 1, 2, 3, 6.
-pub(crate) fn check_scan(scan: Scan, starts: &[i64], ends: &[u64], steps: &[i16]) -> Stand
-    ensures { λ r. ⌜ saysChecked (r .checked) ≡ judged Number (onScan (source starts ends steps) scan) (Gives fine) ⌝ }
+// Of a sound column: fine, or refused 6. It is apart from the check, so that a next and a seek compile it in: handed on through memory, a scan
+// and its stand cost more than they take to find out.
+pub(crate) fn stand_in(scan: Scan, starts: &[i64], ends: &[u64], steps: &[i16]) -> Stand
+    requires { ⌜ sound (columnNow starts ends steps) ≡ true ⌝ }
+    ensures { λ r. ⌜ saysChecked (r .checked) ≡ offIf (badScan (sequence starts ends steps) scan) ⌝ }
     ensures { λ r. ⌜ (saysChecked (r .checked) ≡ Gives fine → Stood (now (ends .entry)) (scan .state) (r .at .index) (r .at .place)) ⌝ }
 {
     let start = scan.start;
     let end = scan.end;
     let state = scan.state;
     let value = scan.value;
+    if end_before(ends, ends.len()) < end {
+        return nowhere(Checked::Refused(Refusal::Scan));
+    }
+    match state {
+        State::Fresh => check_none(value),
+        State::At(index) => {
+            if index < start {
+                return nowhere(Checked::Refused(Refusal::Scan));
+            }
+            if end <= index {
+                return nowhere(Checked::Refused(Refusal::Scan));
+            }
+            check_value(value, starts, ends, steps, index)
+        }
+        State::Ended => check_none(value),
+    }
+}
+
+// Fine, or refused 1, 2, 3, 6.
+pub(crate) fn check_scan(scan: Scan, starts: &[i64], ends: &[u64], steps: &[i16]) -> Stand
+    ensures { λ r. ⌜ saysChecked (r .checked) ≡ judged Number (onScan (source starts ends steps) scan) (Gives fine) ⌝ }
+    ensures { λ r. ⌜ (saysChecked (r .checked) ≡ Gives fine → Stood (now (ends .entry)) (scan .state) (r .at .index) (r .at .place)) ⌝ }
+{
     let checked = check(starts, ends, steps);
     match checked {
         Checked::Refused(why) => nowhere(Checked::Refused(why)),
-        Checked::Fine => {
-            if end_before(ends, ends.len()) < end {
-                return nowhere(Checked::Refused(Refusal::Scan));
-            }
-            match state {
-                State::Fresh => check_none(value),
-                State::At(index) => {
-                    if index < start {
-                        return nowhere(Checked::Refused(Refusal::Scan));
-                    }
-                    if end <= index {
-                        return nowhere(Checked::Refused(Refusal::Scan));
-                    }
-                    check_value(value, starts, ends, steps, index)
-                }
-                State::Ended => check_none(value),
-            }
-        }
+        Checked::Fine => stand_in(scan, starts, ends, steps),
     }
 }
