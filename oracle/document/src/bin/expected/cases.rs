@@ -114,6 +114,9 @@ fn files() -> Vec<(&'static str, Vec<u8>)> {
         ("zeros", [&[b'0'; 63][..], b"5\n", &[b'0'; 64], b"5\n"].concat()),
         ("many", (-700..2300).map(|k| format!("{k}\n")).collect::<String>().into_bytes()),
         ("wide", (0..1500).map(|k| format!("{}\n", i64::MIN + k)).collect::<String>().into_bytes()),
+        // every order of neighbours: up, down, the same
+        ("shuffled", (0..1500).map(|k| format!("{}\n", (k * 7919 % 1511 - 300) / 2 * 7)).collect::<String>().into_bytes()),
+        ("downward", (0..600).rev().map(|k| format!("{k}\n")).collect::<String>().into_bytes()),
         ("late", (0..2000).map(|k| format!("{k}\n")).chain(["x\n".into()]).collect::<String>().into_bytes()),
     ]
 }
