@@ -28,6 +28,8 @@ use c_forms::limits::variables_of;
 use c_forms::scans::FlatScan;
 use c_forms::scans::scan_of;
 use filter_interval::Filter;
+use filter_interval::sifting::sift;
+use loftsplice::scan::Move;
 
 // "Constant bounds are folded when a filter is made", in the mode that is chosen here; or refused 100, 8.
 #[no_mangle]
@@ -50,6 +52,36 @@ pub extern "C" fn loftsplice_filter_new(
     }
 }
 
+// A next or a seek; or refused 100, 1, 2, 3, 6, 8, 7, 9. One function for both, so that a filter is taken apart and put together again inside it:
+// through memory, each copy of a bound is read back slowly.
+fn call(
+    filter: FlatFilter,
+    starts: &[i64],
+    ends: &[u64],
+    steps: &[i16],
+    step: Move,
+    lows: &[u64],
+    lowkinds: &[u8],
+    ups: &[u64],
+    upkinds: &[u8],
+    values: &[i64],
+    found: &[u8],
+) -> FlatSifted
+    ensures { λ r. ⌜ r ≡ callFilter (source starts ends steps) step (lists lows lowkinds ups upkinds values found) filter ⌝ }
+{
+    if is_call(filter, lows, lowkinds, ups, upkinds, values, found) {
+        let lower = variables_of(lows, lowkinds);
+        let upper = variables_of(ups, upkinds);
+        let inputs = inputs_of(values, found);
+        let given = filter_of(filter);
+        let sifted = sift(given, starts, ends, steps, step, lower, upper, inputs);
+        flat_sifted(filter, sifted)
+    } else {
+        let answer = bad_form();
+        FlatSifted { filter, answer }
+    }
+}
+
 // The next element that meets the bounds, or none; or refused 100, 1, 2, 3, 6, 8, 7, 9.
 #[no_mangle]
 pub extern "C" fn loftsplice_filter_next(
@@ -66,16 +98,20 @@ pub extern "C" fn loftsplice_filter_next(
 ) -> FlatSifted
     ensures { λ r. ⌜ r ≡ callFilter (source starts ends steps) Next (lists lows lowkinds ups upkinds values found) filter ⌝ }
 {
-    if is_call(filter, lows, lowkinds, ups, upkinds, values, found) {
-        let lower = variables_of(lows, lowkinds);
-        let upper = variables_of(ups, upkinds);
-        let inputs = inputs_of(values, found);
-        let sifted = filter_of(filter).next(starts, ends, steps, lower, upper, inputs);
-        flat_sifted(filter, sifted)
-    } else {
-        let answer = bad_form();
-        FlatSifted { filter, answer }
-    }
+    let step = Move::Next;
+    call(
+        filter,
+        starts,
+        ends,
+        steps,
+        step,
+        lows,
+        lowkinds,
+        ups,
+        upkinds,
+        values,
+        found,
+    )
 }
 
 // The first element from here on that is not below the target and meets the bounds, or none; or refused 100, 1, 2, 3, 6, 8, 7, 9.
@@ -95,16 +131,20 @@ pub extern "C" fn loftsplice_filter_seek(
 ) -> FlatSifted
     ensures { λ r. ⌜ r ≡ callFilter (source starts ends steps) (Seek target) (lists lows lowkinds ups upkinds values found) filter ⌝ }
 {
-    if is_call(filter, lows, lowkinds, ups, upkinds, values, found) {
-        let lower = variables_of(lows, lowkinds);
-        let upper = variables_of(ups, upkinds);
-        let inputs = inputs_of(values, found);
-        let sifted = filter_of(filter).seek(starts, ends, steps, target, lower, upper, inputs);
-        flat_sifted(filter, sifted)
-    } else {
-        let answer = bad_form();
-        FlatSifted { filter, answer }
-    }
+    let step = Move::Seek(target);
+    call(
+        filter,
+        starts,
+        ends,
+        steps,
+        step,
+        lows,
+        lowkinds,
+        ups,
+        upkinds,
+        values,
+        found,
+    )
 }
 
 // What its scan carries when Within, else none; or refused 100, 6. It looks at no column.

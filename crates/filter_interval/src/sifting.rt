@@ -199,8 +199,8 @@ fn lead_on(
     settle(filter, up, moved)
 }
 
-// One call: refused 1, 2, 3, 6, 8, 7, 9, or one step.
-pub(crate) fn sift(
+// One call, a next or a seek: refused 1, 2, 3, 6, 8, 7, 9, or one step.
+pub fn sift(
     filter: Filter,
     starts: &[i64],
     ends: &[u64],
