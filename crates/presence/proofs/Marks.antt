@@ -2,9 +2,9 @@
 use Prim.Native.Nat.{ℕ, zero, suc, _≤_, _<_}
 use mathlib.Core.Path.{_≡_, refl, sym, ap, _∙_}
 use mathlib.Core.Bool.{Bool, true, false, cond, not, _&&_}
-use mathlib.Core.List.{List, [], _∷_, _++_, map}
+use mathlib.Core.List.{List, [], _∷_, _++_}
 use mathlib.Core.Logic.{_↔_, ⊎-elim}
-use mathlib.Core.Option.{Option, some, none}
+use mathlib.Core.Option.{some, none}
 use native.Mathlib.Omega.{arith}
 use borrow.Author.Tests.{ltb-true, lt-ltb, le-ltb}
 use lib.Dec.{ltb}
@@ -12,12 +12,12 @@ use lib.IntN.{ℤ, pos}
 use lib.Signed.{ltZ}
 use lib.ListN.{length, getD, take, drop, length-take, length-append, length-map, List·getD-append, List·getD-map}
 use lib.Seq.{getD-take}
-use Rattle.ranges.proofs.Bools.{either, clash, and-left, and-right, and-both, not-yes, not-no}
+use Rattle.ranges.proofs.Bools.{clash, and-left, and-right, and-both, not-yes, not-no}
 use Rattle.ranges.proofs.Order.{lt-self, lt-same}
 use Rattle.ranges.proofs.Lists.{there-same}
 use Rattle.ranges.proofs.Reading.{same-test}
 use Rattle.ranges.proofs.Spans.{First, first-known, lt-or-ge}
-use Rattle.meaning.specs.Refusals.{Said, Gives}
+use Rattle.meaning.specs.Refusals.{Gives}
 use Rattle.meaning.specs.Outputs.{after}
 use Rattle.meaning.specs.Sequence.{Sequence, Source, sameZ}
 use Rattle.meaning.specs.Parts.{each}

@@ -7,7 +7,6 @@ use mathlib.Core.Option.{Option}
 use native.Mathlib.Omega.{arith}
 use native.Mathlib.Nat.{le-refl}
 use borrow.Author.Tests.{lt-ltb, le-ltb}
-use lib.Dec.{ltb}
 use lib.IntN.{ℤ}
 use lib.ListN.{length, length-map}
 use Rattle.meaning.specs.Refusals.{Word, fine, Said, Gives, Number, tried}
@@ -20,7 +19,6 @@ use Rattle.loftsplice.specs.declared.scan.Move.the-variants.{Seek}
 use Rattle.loftsplice.specs.declared.running.Footing.{Footing}
 use Rattle.loftsplice.specs.Scan.{fresh, badScan}
 use Rattle.loftsplice.specs.Running.{Tally, seeksFrom, counted, refuseRun, seekRunOf, footingAt, footingOf}
-use Rattle.theorems.specs.Exact.{accepted}
 use Rattle.theorems.proofs.RunCalls.{values-few}
 use Rattle.presence.specs.Presence.{carriedOf}
 

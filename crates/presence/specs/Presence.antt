@@ -2,6 +2,7 @@
 use Prim.Native.Nat.{ℕ}
 use mathlib.Core.Bool.{Bool, cond, not}
 use mathlib.Core.List.{List, map}
+use mathlib.Core.Option.{Option}
 use lib.Dec.{ltb}
 use lib.IntN.{ℤ}
 use lib.ListN.{length}
@@ -10,6 +11,7 @@ use Rattle.meaning.specs.declared.Refusal.{Refusal}
 use Rattle.meaning.specs.declared.Refusal.the-variants.{Order, Room}
 use Rattle.meaning.specs.Refusals.{Word, fine, Said, Gives, Number, also, judged}
 use Rattle.meaning.specs.Sequence.{Sequence, Source, onSource, sameZ, rises}
+use Rattle.loftsplice.specs.Scan.{fresh, seekOf, posOf}
 
 -- the first index whose element is k; the length, where there is none
 abbrev pub indexOf : Sequence → ℤ → ℕ
@@ -32,3 +34,7 @@ onNumbers p ks places = also Room (ltb places (length ks)) (also Order (not (ris
 
 unfoldable pub carriedOf : Source → List ℤ → ℕ → Said Word
 carriedOf p ks places = judged Number (onNumbers p ks places) (Gives fine)
+
+-- where a seek of k by a new scan stands, as `pos` says it: at the index of k, if it is carried
+abbrev pub soughtAt : Source → ℤ → Said (Option ℕ)
+soughtAt p k = posOf p (seekOf p k (fresh 0 (p .sequence .size)) .scan)

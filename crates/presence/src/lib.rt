@@ -7,9 +7,9 @@ ghost use lib.ListN.{length};
 ghost use Rattle.meaning.specs.Column.{endBefore};
 ghost use Rattle.meaning.specs.Contracts.{Leaves, sequence, source};
 ghost use Rattle.checked.specs.Says.{saysChecked};
-ghost use Rattle.loftsplice.specs.Scan.{saysPosition, fresh, seekOf, posOf};
+ghost use Rattle.loftsplice.specs.Scan.{saysPosition, fresh};
 ghost use Rattle.theorems.specs.Audit.{ascending};
-ghost use Rattle.presence.specs.Presence.{flagsOf, carriedOf};
+ghost use Rattle.presence.specs.Presence.{flagsOf, carriedOf, soughtAt};
 ghost use Rattle.presence.specs.Inner.{Stretch, markAt, marks};
 use checked::Checked;
 use loftsplice::running::Counted;
@@ -168,7 +168,7 @@ pub fn carried(
 
 // The index at which a seek of a number by a new scan stands: that of the number, if it is carried. Refused 1, 2, 3.
 pub fn index(starts: &[i64], ends: &[u64], steps: &[i16], number: i64) -> Position
-    ensures { λ r. ⌜ saysPosition r ≡ posOf (source starts ends steps) (seekOf (source starts ends steps) number (fresh 0 (sequence starts ends steps .size)) .scan) ⌝ }
+    ensures { λ r. ⌜ saysPosition r ≡ soughtAt (source starts ends steps) number ⌝ }
 {
     let scan = whole(ends);
     let moved = scan.seek(starts, ends, steps, number);

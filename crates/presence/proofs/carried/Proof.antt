@@ -17,7 +17,8 @@ no-room-requires c κs = search needs
 
 returns : tie.Need-returns
 returns c =
-    let s = c .before .before .before .before in
+    let at-then = c .before in
+    let s = at-then .before .before .before in
     let col = columnNow (s .args .starts) (s .args .ends) (s .args .steps) in (
       c .no-room .ensures,
       unwritten (sourceOf col) (s .args .numbers .now) (length (s .args .flags .now)) (c .before .if1 .taken) _ (c .no-room .ensures) (flagsOf (sequenceOf col) (s .args .numbers .now)) (s .args .flags .now),

@@ -122,13 +122,15 @@ module _ (c : tie.After-carried-in Inv-loop μ-loop) where
 same-length : tie.Need-same-length Inv-loop μ-loop
 same-length c =
     let at-part = c .before in
-    let r = at-part .before .before .before .before in
+    let at-flags = at-part .before .before .before in
+    let r = at-flags .before in
     ap length (turned r .refused _ (ap saysChecked (at-part .part .given .1)))
 
 returns : tie.Need-returns Inv-loop μ-loop
 returns c =
     let at-part = c .before in
-    let r = at-part .before .before .before .before in
+    let at-flags = at-part .before .before .before in
+    let r = at-flags .before in
     let e = ap saysChecked (at-part .part .given .1) in
     (sym e ∙ turned r .says, turned r .refused _ e)
 

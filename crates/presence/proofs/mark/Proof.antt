@@ -1,9 +1,9 @@
 -- `mark` meets its contract: after each turn the array's front holds the marks so far. Assumes nothing.
-use Prim.Native.Nat.{ℕ, _+_, _-_, _≤_, _<_}
+use Prim.Native.Nat.{_-_, _≤_}
 use native.Mathlib.Omega.{arith}
-use mathlib.Core.Path.{_≡_, refl, sym, ap, _∙_}
+use mathlib.Core.Path.{_≡_, refl, ap, _∙_}
 use mathlib.Core.List.{_++_}
-use lib.ListN.{length, getD, drop}
+use lib.ListN.{length, drop}
 use lib.Seq.{sets, length-sets}
 use Rattle.meaning.specs.Parts.{joined, each}
 use Rattle.meaning.proofs.Parts.{each-length, each-more, each-filled}

@@ -6,9 +6,8 @@ use mathlib.Core.Bool.{false}
 use mathlib.Core.Logic.{⊎-elim}
 use lib.IntN.{pos}
 use lib.Signed.{ltZ}
-use lib.ListN.{length, getD, take}
+use lib.ListN.{length, getD}
 use mir.Syntax.{w64}
-use mir.Val.{toZ, ofZ}
 use native.Mathlib.Nat.{eq-or-lt-of-le}
 use borrow.Author.Tests.{ltb-true}
 use Rattle.keys.proofs.Bits.{back}
@@ -53,7 +52,9 @@ module _ (c : tie.At-loop Inv-loop μ-loop) where
       record { few = v .1; inside = v .2; some = λ _. v .0; up = up-first (c .before .before .args .numbers .now) (c .loop .k) (v .2) (v .3) }
 
 returns-2 : tie.Need-returns-2 Inv-loop μ-loop
-returns-2 c = so-far (c .before .before .before .before .before)
+returns-2 c =
+    let at-last = c .before .before in
+    so-far (at-last .before .before .before)
 
 add-k : tie.Need-add-k Inv-loop μ-loop
 add-k c = search needs
