@@ -1,0 +1,4 @@
+pub mod Rule
+pub mod Follows
+pub mod Says
+pub mod Inner

@@ -1,0 +1,157 @@
+// Runs from a plain list, by the rule of specs/Rule.antt. The runs are counted, and the room is tried, before anything is written.
+ghost use mathlib.Core.Path.{_≡_};
+ghost use mathlib.Core.Bool.{true, false};
+ghost use Prim.Native.Nat.{_+_, _≤_, _<_, min};
+ghost use lib.ListN.{length};
+ghost use lib.Seq.{sets};
+ghost use lib.IntN.{_-ℤ_};
+ghost use Rattle.keys.specs.Widths.{fitsIn, half16};
+ghost use Rattle.meaning.specs.Contracts.{Leaves};
+ghost use Rattle.meaning.specs.Sequence.{sameZ};
+ghost use Rattle.build.specs.Rule.{runsOf, builtFrom};
+ghost use Rattle.build.specs.Inner.{firstAt, openAt, RoomFor};
+ghost use Rattle.build.specs.Says.{saysBuilt, building};
+use codec::unsigned64;
+use loftsplice::run_length_encodable::Difference;
+use loftsplice::run_length_encodable::diff_step;
+use meaning::Refusal;
+
+// The run count, or a refusal.
+pub enum Built {
+    Runs(usize),
+    Refused(Refusal),
+}
+
+// Where a run ends, and its step.
+struct Stretch {
+    end: usize,
+    step: i16,
+}
+
+// Two values so far apart that they have no step, whichever is above: one test, where `diff_step` asks first which it is. It tells no more
+// than that: a difference that wraps may look like a step.
+fn far(previous: i64, current: i64) -> bool
+    ensures { λ r. ⌜ (r ≡ true → fitsIn half16 (current -ℤ previous) ≡ false) ⌝ }
+{
+    let d = std::num::wrapping_sub_u64(unsigned64(current), unsigned64(previous));
+    65535 < std::num::wrapping_add_u64(d, 32768)
+}
+
+// Whether a value lies a step after another. The difference of the patterns may wrap; that it did not is told by which value is above.
+fn continues(previous: i64, current: i64, step: i16) -> bool
+    ensures { λ r. ⌜ r ≡ sameZ (current -ℤ previous) step ⌝ }
+{
+    if std::num::wrapping_sub_u64(unsigned64(current), unsigned64(previous))
+        != unsigned64(step as i64)
+    {
+        return false;
+    }
+    (previous <= current) == (0 <= step)
+}
+
+// Where a run that has begun at a, with two values and a step, ends.
+fn end_of(values: &[i64], a: usize, step: i16) -> usize
+    requires { ⌜ a + 2 ≤ length (now values) ⌝ }
+    ensures { λ r. ⌜ r ≡ a + openAt (now (values .entry)) a step (a + 2) .count ⌝ }
+    ensures { λ r. ⌜ r ≤ length (now (values .entry)) ⌝ }
+{
+    let mut i = a + 2;
+    while i < values.len() {
+        if !continues(values[i - 1], values[i], step) {
+            return i;
+        }
+        i += 1;
+    }
+    i
+}
+
+// The run that begins at a.
+fn run_at(values: &[i64], a: usize) -> Stretch
+    requires { ⌜ a < length (now values) ⌝ }
+    ensures { λ r. ⌜ r .end ≡ a + firstAt (now (values .entry)) a .count ⌝ }
+    ensures { λ r. ⌜ r .step ≡ firstAt (now (values .entry)) a .step ⌝ }
+    ensures { λ r. ⌜ r .end ≤ length (now (values .entry)) ⌝ }
+{
+    let next = a + 1;
+    if next == values.len() {
+        return Stretch { end: next, step: 0 };
+    }
+    if far(values[a], values[next]) {
+        return Stretch { end: next, step: 0 };
+    }
+    match diff_step(values[a], values[next]) {
+        Difference::None => Stretch { end: next, step: 0 },
+        Difference::Step(step) => {
+            let end = end_of(values, a, step);
+            Stretch {
+                end: end,
+                step: step,
+            }
+        }
+    }
+}
+
+// How many runs the rule needs; 4097 if it needs more than 4096, and then no more of the list is read.
+fn count_runs(values: &[i64]) -> usize
+    ensures { λ r. ⌜ r ≡ min (length (runsOf (now (values .entry)))) 4097 ⌝ }
+{
+    let mut n = 0;
+    let mut i = 0;
+    while i < values.len() {
+        if 4096 < n {
+            return n;
+        }
+        let run = run_at(values, i);
+        i = run.end;
+        n += 1;
+    }
+    n
+}
+
+// The runs, into the first places of the three arrays.
+fn write_runs(values: &[i64], starts: &mut [i64], ends: &mut [u64], steps: &mut [i16])
+    requires { ⌜ RoomFor values starts ends steps ⌝ }
+    ensures { λ _. ⌜ now (starts .exit) ≡ sets (now (starts .entry)) 0 (builtFrom (now (values .entry)) .starts) ⌝ }
+    ensures { λ _. ⌜ now (ends .exit) ≡ sets (now (ends .entry)) 0 (builtFrom (now (values .entry)) .ends) ⌝ }
+    ensures { λ _. ⌜ now (steps .exit) ≡ sets (now (steps .entry)) 0 (builtFrom (now (values .entry)) .steps) ⌝ }
+{
+    let mut n = 0;
+    let mut i = 0;
+    while i < values.len() {
+        let run = run_at(values, i);
+        let step = run.step;
+        let end = run.end;
+        starts[n] = values[i];
+        ends[n] = end as u64;
+        steps[n] = step;
+        i = end;
+        n += 1;
+    }
+}
+
+// Document 02, request 1: the runs of a plain list, into the first places of the three arrays, which may differ in length.
+pub fn build(values: &[i64], starts: &mut [i64], ends: &mut [u64], steps: &mut [i16]) -> Built
+    ensures { λ r. ⌜ saysBuilt r ≡ building values starts ends steps ⌝ }
+    ensures { λ r. ⌜ Leaves starts (saysBuilt r) (builtFrom (now (values .entry)) .starts) ⌝ }
+    ensures { λ r. ⌜ Leaves ends (saysBuilt r) (builtFrom (now (values .entry)) .ends) ⌝ }
+    ensures { λ r. ⌜ Leaves steps (saysBuilt r) (builtFrom (now (values .entry)) .steps) ⌝ }
+{
+    if 4294967295 < values.len() {
+        return Built::Refused(Refusal::Shape);
+    }
+    let n = count_runs(values);
+    if 4096 < n {
+        return Built::Refused(Refusal::Shape);
+    }
+    if starts.len() < n {
+        return Built::Refused(Refusal::Room);
+    }
+    if ends.len() < n {
+        return Built::Refused(Refusal::Room);
+    }
+    if steps.len() < n {
+        return Built::Refused(Refusal::Room);
+    }
+    write_runs(values, starts, ends, steps);
+    Built::Runs(n)
+}
