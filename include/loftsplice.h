@@ -15,8 +15,8 @@
  * Threads: the library keeps nothing between calls, has no data of its own that is written, and writes into the lists that are handed over for it and
  * nowhere else. So any number of threads may call at once, also on one column, as long as nobody writes to its lists meanwhile.
  *
- * Cost: each call's comment ends with it. R is the number of runs, W of windows, T of targets, N of elements written; bounds and inputs, of which there
- * are few, count as constant. The O(R) is the check of the whole column that each call on one begins with. The costs are read off the code; answers are proved.
+ * Cost: each call's comment ends with it. R is the number of runs, W of windows, T of targets, V of values to build from, N of elements written; bounds
+ * and inputs, of which there are few, count as constant. The O(R) is the check of the whole column that each call on one begins with. The costs are read off the code; answers are proved.
  */
 #ifndef LOFTSPLICE_H
 #define LOFTSPLICE_H
@@ -44,7 +44,8 @@ extern "C" {
 
 /* Refusals. Each call's line says which it gives, in the order in which they are tried. */
 enum {
-    LOFTSPLICE_SHAPE = 1,   /* list lengths of the column differ, or over LOFTSPLICE_MAX_RUNS runs */
+    LOFTSPLICE_SHAPE = 1,   /* list lengths of the column differ, or over LOFTSPLICE_MAX_RUNS runs; build: that many runs are needed, or over
+                             * LOFTSPLICE_MAX_ELEMENTS values */
     LOFTSPLICE_ENDS = 2,    /* an end is not above the one before (the first: above 0), or is over LOFTSPLICE_MAX_ELEMENTS */
     LOFTSPLICE_REACH = 3,   /* a run's last element is outside i64 */
     LOFTSPLICE_INDEX = 4,   /* element asked at index >= length; place asked above length */
@@ -233,6 +234,12 @@ typedef struct loftsplice_written {
     uint64_t bytes;
 } loftsplice_written;
 
+/* The run count. */
+typedef struct loftsplice_built {
+    uint32_t refusal;
+    uint64_t runs;
+} loftsplice_built;
+
 /* ---- layout: these are the sizes and places that the library has (x86-64 Linux). Where a compiler lays a struct out otherwise, it fails here: by a
  * static assertion since C11 and C++11, by an array of a size below 0 before. */
 
@@ -279,6 +286,7 @@ LOFTSPLICE_LAYOUT_2(loftsplice_reset, 104, refusal, 0, filter, 8);
 LOFTSPLICE_LAYOUT_2(loftsplice_listed, 16, refusal, 0, sum, 8);
 LOFTSPLICE_LAYOUT_3(loftsplice_read, 24, refusal, 0, runs, 8, used, 16);
 LOFTSPLICE_LAYOUT_2(loftsplice_written, 16, refusal, 0, bytes, 8);
+LOFTSPLICE_LAYOUT_2(loftsplice_built, 16, refusal, 0, runs, 8);
 
 #undef LOFTSPLICE_LAYOUT_HOLDS
 #undef LOFTSPLICE_LAYOUT_SIZE
@@ -310,6 +318,13 @@ loftsplice_answer loftsplice_get(const int64_t *starts, size_t starts_len, const
 
 /* The step from one value to another, if current minus previous is a step (-32,768..32,767). O(1). */
 loftsplice_difference loftsplice_diff_step(int64_t previous, int64_t current);
+
+/* Builds a column whose elements are the values, in their order, into the first places of the three lists, which may differ in length, and answers its
+ * runs. A run starts with one value and step 0; its second value joins if the difference is a step, which becomes the run's; later values join while
+ * the difference equals it; otherwise a new run starts. No column with these elements has fewer runs. Or refused 1, 10, and then nothing is written.
+ * O(V). */
+loftsplice_built loftsplice_build(const int64_t *values, size_t values_len, int64_t *starts, size_t starts_len, uint64_t *ends, size_t ends_len,
+    int16_t *steps, size_t steps_len);
 
 /* ---- the scan */
 

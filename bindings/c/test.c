@@ -1004,6 +1004,100 @@ static void records(void) {
     }
 }
 
+/* The rule of a plain list, said another way: the runs of n values, each as long as it can be. */
+static size_t plain_runs(const int64_t *values, size_t n, int64_t *starts, uint64_t *ends, int16_t *steps) {
+    size_t runs = 0;
+    for (size_t i = 0; i < n; runs++) {
+        size_t end = i + 1;
+        loftsplice_difference first = {0, 0};
+        if (end < n) first = loftsplice_diff_step(values[i], values[end]);
+        starts[runs] = values[i];
+        steps[runs] = first.found ? (int16_t)first.step : 0;
+        for (loftsplice_difference d = first; d.found && d.step == first.step && ++end < n;) d = loftsplice_diff_step(values[end - 1], values[end]);
+        ends[runs] = i = end;
+    }
+    return runs;
+}
+
+/* Builds from n values into room for some runs in each list, all of it and the places behind compared; elements are the values again. */
+enum { most_built = 16 };
+static void built_at(int line, const int64_t *values, size_t n, size_t a, size_t b, size_t c) {
+    int64_t starts[most_built + 1], plain_starts[most_built];
+    uint64_t ends[most_built + 1], plain_ends[most_built];
+    int16_t steps[most_built + 1], plain_steps[most_built];
+    for (size_t i = 0; i <= most_built; i++) starts[i] = 7, ends[i] = 7, steps[i] = 7;
+    size_t runs = plain_runs(values, n, plain_starts, plain_ends, plain_steps);
+    int short_of = a < runs || b < runs || c < runs;
+    loftsplice_built r = loftsplice_build(values, n, starts, a, ends, b, steps, c);
+    same_at("refusal", line, r.refusal, short_of ? LOFTSPLICE_ROOM : 0);
+    same_at("runs", line, (int64_t)r.runs, short_of ? 0 : (int64_t)runs);
+    for (size_t i = 0; i <= most_built; i++) {
+        int filled = !short_of && i < runs;
+        same_at("start", line, starts[i], filled ? plain_starts[i] : 7);
+        same_at("end", line, (int64_t)ends[i], filled ? (int64_t)plain_ends[i] : 7);
+        same_at("step", line, steps[i], filled ? plain_steps[i] : 7);
+    }
+    if (short_of) return;
+    same_at("check", line, loftsplice_check(starts, runs, ends, runs, steps, runs), 0);
+    same_at("length", line, (int64_t)loftsplice_len(starts, runs, ends, runs, steps, runs).length, (int64_t)n);
+    for (size_t i = 0; i < n; i++) same_at("element", line, loftsplice_get(starts, runs, ends, runs, steps, runs, i).value, values[i]);
+}
+#define BUILT(...) do { \
+    static const int64_t list[] = {__VA_ARGS__}; \
+    built_at(__LINE__, list, sizeof list / sizeof *list, most_built, most_built, most_built); \
+} while (0)
+
+static void builds(void) {
+    static const int64_t values[] = {10, 15, 20, 25, 30, 31, 40, 140, 240};
+    int64_t starts[4] = {7, 7, 7, 7};
+    uint64_t ends[4] = {7, 7, 7, 7};
+    int16_t steps[4] = {7, 7, 7, 7};
+    loftsplice_built r = loftsplice_build(values, 9, starts, 4, ends, 3, steps, 4);
+    SAME(r.refusal, 0), SAME(r.runs, 3);
+    SAME(starts[0], 10), SAME(ends[0], 5), SAME(steps[0], 5), SAME(starts[1], 31), SAME(ends[1], 7), SAME(steps[1], 9);
+    SAME(starts[2], 140), SAME(ends[2], 9), SAME(steps[2], 100), SAME(starts[3], 7), SAME(ends[3], 7), SAME(steps[3], 7);
+    for (size_t a = 2; a < 5; a++)
+        for (size_t b = 2; b < 5; b++)
+            for (size_t c = 2; c < 5; c++) built_at(__LINE__, values, 9, a, b, c);
+    /* no value, one, two, equal ones, falling ones; a step is kept from no run before; the edges of a step and of an i64, where a difference wraps */
+    r = loftsplice_build(NULL, 0, NULL, 0, NULL, 0, NULL, 0);
+    SAME(r.refusal, 0), SAME(r.runs, 0);
+    BUILT(5);
+    BUILT(5, 5);
+    BUILT(5, 5, 5, 4, 3, 2, 2, 2);
+    BUILT(1, 2, 3, 100000, 100001, 100002);
+    BUILT(1, 2, 3, 5, 7, 10, 11, 12, 14);
+    BUILT(0, 32767, 65534, 98302);
+    BUILT(0, 32768, 65536);
+    BUILT(0, -32768, -65536);
+    BUILT(0, -32769, -65538);
+    BUILT(INT64_MIN, INT64_MAX, INT64_MIN, INT64_MAX);
+    BUILT(INT64_MAX - 1, INT64_MAX, INT64_MIN, INT64_MIN + 1);
+    BUILT(INT64_MIN + 1, INT64_MIN, INT64_MAX, INT64_MAX - 1);
+    BUILT(INT64_MAX - 32767, INT64_MAX, INT64_MIN + 32766);
+    BUILT(INT64_MIN + 32768, INT64_MIN, INT64_MAX - 32767);
+    /* every list of eight of these */
+    static const int64_t from[] = {INT64_MIN, INT64_MAX, 0, 1};
+    for (unsigned k = 0; k < 65536; k++) {
+        int64_t list[8];
+        for (unsigned i = 0; i < 8; i++) list[i] = from[k >> 2 * i & 3];
+        built_at(__LINE__, list, 8, most_built, most_built, most_built);
+    }
+    /* the most runs, and one more: that is 1, also without room, and nothing is written */
+    static int64_t far[LOFTSPLICE_MAX_RUNS + 1], s[LOFTSPLICE_MAX_RUNS];
+    static uint64_t e[LOFTSPLICE_MAX_RUNS];
+    static int16_t t[LOFTSPLICE_MAX_RUNS];
+    for (int i = 0; i <= LOFTSPLICE_MAX_RUNS; i++) far[i] = i * INT64_C(100000);
+    r = loftsplice_build(far, LOFTSPLICE_MAX_RUNS + 1, s, LOFTSPLICE_MAX_RUNS, e, LOFTSPLICE_MAX_RUNS, t, LOFTSPLICE_MAX_RUNS);
+    SAME(r.refusal, LOFTSPLICE_SHAPE), SAME(r.runs, 0), SAME(e[0], 0), SAME(s[1], 0);
+    r = loftsplice_build(far, LOFTSPLICE_MAX_RUNS + 1, NULL, 0, NULL, 0, NULL, 0);
+    SAME(r.refusal, LOFTSPLICE_SHAPE), SAME(r.runs, 0);
+    r = loftsplice_build(far, LOFTSPLICE_MAX_RUNS, s, LOFTSPLICE_MAX_RUNS, e, LOFTSPLICE_MAX_RUNS - 1, t, LOFTSPLICE_MAX_RUNS);
+    SAME(r.refusal, LOFTSPLICE_ROOM), SAME(r.runs, 0), SAME(e[0], 0), SAME(s[1], 0);
+    r = loftsplice_build(far, LOFTSPLICE_MAX_RUNS, s, LOFTSPLICE_MAX_RUNS, e, LOFTSPLICE_MAX_RUNS, t, LOFTSPLICE_MAX_RUNS);
+    SAME(r.refusal, 0), SAME(r.runs, LOFTSPLICE_MAX_RUNS), SAME(e[LOFTSPLICE_MAX_RUNS - 1], LOFTSPLICE_MAX_RUNS), SAME(s[1], 100000), SAME(t[1], 0);
+}
+
 int main(void) {
     columns();
     scans();
@@ -1015,6 +1109,7 @@ int main(void) {
     cut_windows();
     chained_seeks();
     records();
+    builds();
     printf("c-test: %lu comparisons, %lu failed\n", made, failed);
     return failed != 0;
 }
