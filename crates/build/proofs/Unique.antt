@@ -28,11 +28,11 @@ abbrev Open : Run → ℤ → Type 0
 Open run last = Held run last × (run .count ≡ 1 → run .step ≡ pos 0)
 
 -- the first of the runs from an open run on begins where that does
-abbrev Begins : ℤ → List Run → Type 0
+abbrev pub Begins : ℤ → List Run → Type 0
 Begins v [] = ⊥
 Begins v (r ∷ rs) = r .start ≡ v
 
-from-begins : (vs : List ℤ) (run : Run) (last : ℤ) → Begins (run .start) (runsFrom run last vs)
+pub from-begins : (vs : List ℤ) (run : Run) (last : ℤ) → Begins (run .start) (runsFrom run last vs)
 unfolding runsFrom
 from-begins [] run last = refl
 from-begins (v ∷ vs) run last = either (joins run (v -ℤ last))
@@ -96,7 +96,7 @@ unfolding stage
 stage-is s d zero a = ap (λ x. record { start = s; step = x; count = 1 }) (sym (a refl))
 stage-is s d (suc n) a = refl
 
-run-open : (r : Run) (ys : List ℤ) → Regular r → runsOf (valuesOf r ++ ys) ≡ runsFrom r (lastOf r) ys
+pub run-open : (r : Run) (ys : List ℤ) → Regular r → runsOf (valuesOf r ++ ys) ≡ runsFrom r (lastOf r) ys
 run-open r ys g = at (r .count) refl (g .some)
   where
     at : (n : ℕ) → n ≡ r .count → 0 < n → runsOf (valuesOf r ++ ys) ≡ runsFrom r (lastOf r) ys
