@@ -1,45 +1,20 @@
--- What `diff_step`, and a difference that may wrap, tell of a value that may join. Assumes nothing.
+-- What a difference that may wrap tells of a value that may join. Assumes nothing.
 use Prim.Native.Nat.{ℕ, suc, _+_, _-_, _%_, _^_, _≤_, _<_}
 use mathlib.Core.Path.{_≡_, sym, ap, _∙_}
-use mathlib.Core.Bool.{Bool, true, false, Bool·beq, false≢true}
-use mathlib.Core.Option.{Option, some, none}
+use mathlib.Core.Bool.{true, false, Bool·beq}
 use native.Mathlib.Omega.{arith}
-use borrow.Author.Tests.{le-ltb, ltb-true, ltb-false, leb-true, leb-false, le-leb}
+use borrow.Author.Tests.{ltb-true, ltb-false, leb-true, leb-false, le-leb}
 use lib.Dec.{ltb, leb}
 use lib.IntN.{ℤ, pos, negsuc, _-ℤ_}
 use lib.Signed.{mag, leZ}
-use Rattle.keys.specs.Key.{key}
+use Rattle.keys.specs.Key.{key, unkey}
 use Rattle.keys.specs.Widths.{fitsIn, half16, half64}
-use Rattle.keys.proofs.Keys.{key-range, le-key}
+use Rattle.keys.proofs.Keys.{sub-low, sub-high, key-range, le-key}
 use Rattle.keys.proofs.Widths.{in-mag, apart, apart-down}
 use Rattle.ranges.proofs.Bools.{either}
-use Rattle.meaning.specs.Calls.{diffStepOf}
 use Rattle.meaning.specs.Sequence.{sameZ}
 use Rattle.codec.specs.Bytes.{ofSigned}
 use Rattle.build.proofs.Rule.{same-yes, same-self}
-
--- ---- `diff_step`
-
-there : Option ℤ → Bool
-there (some z) = true
-there none = false
-
-whole : Option ℤ → ℤ
-whole (some z) = z
-whole none = pos 0
-
-module _ (x y : ℤ) where
-  pub none-told : none ≡ diffStepOf x y → fitsIn half16 (y -ℤ x) ≡ false
-  unfolding diffStepOf there
-  none-told e = either (fitsIn half16 (y -ℤ x)) (λ t. absurd (false≢true (ap there e ∙ rw t))) (λ t. t)
-
-  pub some-fits : (d : ℤ) → some d ≡ diffStepOf x y → fitsIn half16 (y -ℤ x) ≡ true
-  unfolding diffStepOf there
-  some-fits d e = either (fitsIn half16 (y -ℤ x)) (λ t. t) (λ t. absurd (false≢true (sym (ap there e ∙ rw t))))
-
-  pub some-told : (d : ℤ) → some d ≡ diffStepOf x y → d ≡ y -ℤ x
-  unfolding diffStepOf whole
-  some-told d e = ap whole e ∙ rw (some-fits d e)
 
 -- ---- the difference r of the two's complement patterns, which may wrap
 
@@ -67,11 +42,17 @@ module _ (x y : ℤ) (fx : mag x < half64) (fy : mag y < half64)
   down-by : to < from → negsuc (18446744073709551615 - r) ≡ y -ℤ x
   down-by l = ap negsuc (omega (arith, keys-wrap x y fx fy r e, key-range half64 x fx)) ∙ apart-down half64 x y fx fy l
 
-  -- a number that is not near 0 is the difference of two values with no step
-  pub far-apart : (s : ℕ) → s ≡ (r + 32768) % 18446744073709551616 → 65535 < s → fitsIn half16 (y -ℤ x) ≡ false
-  far-apart s is l = either (ltb to from)
-      (λ t. ap (fitsIn half16) (sym (down-by (ltb-true to from t))) ∙ in-mag half16 (negsuc (18446744073709551615 - r)) ∙ le-ltb (18446744073709551615 - r) half16 (omega arith))
-      (λ t. ap (fitsIn half16) (sym (up-by (ltb-false to from t))) ∙ in-mag half16 (pos r) ∙ le-ltb r half16 (omega arith))
+  -- 32,768 more, which may wrap too: where there is a step it is found again
+  pub step-near : (s : ℕ) → s ≡ (r + 32768) % 18446744073709551616 → fitsIn half16 (y -ℤ x) ≡ true → (s ≤ 65535) × (unkey half16 s ≡ y -ℤ x)
+  step-near s is h = either (ltb to from)
+      (λ t.
+      let d = down-by (ltb-true to from t) in
+      let l : 18446744073709551615 - r < half16 = ltb-true (18446744073709551615 - r) half16 (sym (ap (fitsIn half16) (sym d) ∙ in-mag half16 (negsuc (18446744073709551615 - r))) ∙ h) in
+      (omega arith, sub-low s half16 (omega arith) ∙ ap negsuc (omega arith) ∙ d))
+      (λ t.
+      let u = up-by (ltb-false to from t) in
+      let l : r < half16 = ltb-true r half16 (sym (ap (fitsIn half16) (sym u) ∙ in-mag half16 (pos r)) ∙ h) in
+      (omega arith, sub-high s half16 (omega arith) ∙ ap pos (omega arith) ∙ u))
 
   -- two values that are s apart have the pattern of s as their difference,
   pattern-is : (s : ℤ) → y -ℤ x ≡ s → r ≡ ofSigned 8 s

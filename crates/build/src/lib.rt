@@ -1,10 +1,11 @@
 // Runs from a plain list, by the rule of specs/Rule.antt. The runs are counted, and the room is tried, before anything is written.
 ghost use mathlib.Core.Path.{_≡_};
-ghost use mathlib.Core.Bool.{true, false};
+ghost use mathlib.Core.Bool.{true};
 ghost use Prim.Native.Nat.{_+_, _≤_, _<_, min};
 ghost use lib.ListN.{length};
 ghost use lib.Seq.{sets};
 ghost use lib.IntN.{_-ℤ_};
+ghost use Rattle.keys.specs.Key.{unkey};
 ghost use Rattle.keys.specs.Widths.{fitsIn, half16};
 ghost use Rattle.meaning.specs.Contracts.{Leaves};
 ghost use Rattle.meaning.specs.Sequence.{sameZ};
@@ -12,8 +13,6 @@ ghost use Rattle.build.specs.Rule.{runsOf, builtFrom};
 ghost use Rattle.build.specs.Inner.{firstAt, openAt, RoomFor};
 ghost use Rattle.build.specs.Says.{saysBuilt, building};
 use codec::unsigned64;
-use loftsplice::run_length_encodable::Difference;
-use loftsplice::run_length_encodable::diff_step;
 use meaning::Refusal;
 
 // The run count, or a refusal.
@@ -28,13 +27,13 @@ struct Stretch {
     step: i16,
 }
 
-// Two values so far apart that they have no step, whichever is above: one test, where `diff_step` asks first which it is. It tells no more
-// than that: a difference that wraps may look like a step.
-fn far(previous: i64, current: i64) -> bool
-    ensures { λ r. ⌜ (r ≡ true → fitsIn half16 (current -ℤ previous) ≡ false) ⌝ }
+// Where two values have a step, 32,768 more than it, up to 65,535. Where they have none it is any number: a difference that wraps may look like a
+// step. No jump hangs on which value is above, as one does in `diff_step`: in a list that goes up and down it would be guessed wrong.
+fn near(previous: i64, current: i64) -> u64
+    ensures { λ r. ⌜ (fitsIn half16 (current -ℤ previous) ≡ true → (r ≤ 65535) × (unkey half16 r ≡ current -ℤ previous)) ⌝ }
 {
-    let d = std::num::wrapping_sub_u64(unsigned64(current), unsigned64(previous));
-    65535 < std::num::wrapping_add_u64(d, 32768)
+    let difference = std::num::wrapping_sub_u64(unsigned64(current), unsigned64(previous));
+    std::num::wrapping_add_u64(difference, 32768)
 }
 
 // Whether a value lies a step after another. The difference of the patterns may wrap; that it did not is told by which value is above.
@@ -76,18 +75,18 @@ fn run_at(values: &[i64], a: usize) -> Stretch
     if next == values.len() {
         return Stretch { end: next, step: 0 };
     }
-    if far(values[a], values[next]) {
+    let shifted = near(values[a], values[next]);
+    if 65535 < shifted {
         return Stretch { end: next, step: 0 };
     }
-    match diff_step(values[a], values[next]) {
-        Difference::None => Stretch { end: next, step: 0 },
-        Difference::Step(step) => {
-            let end = end_of(values, a, step);
-            Stretch {
-                end: end,
-                step: step,
-            }
-        }
+    let step = ((shifted as i64) - 32768) as i16;
+    if !continues(values[a], values[next], step) {
+        return Stretch { end: next, step: 0 };
+    }
+    let end = end_of(values, a, step);
+    Stretch {
+        end: end,
+        step: step,
     }
 }
 

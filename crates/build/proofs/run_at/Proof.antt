@@ -4,17 +4,24 @@ use mathlib.Core.Bool.{true, false}
 use mathlib.Core.List.{List}
 use Prim.Native.Nat.{_+_, _≤_, _<_}
 use native.Mathlib.Omega.{arith}
+use borrow.Author.Tests.{lt-ltb, not-false}
 use lib.ListN.{length}
 use lib.IntN.{ℤ, pos, _-ℤ_}
+use lib.Signed.{mag}
 use mir.Syntax.{w16, w64}
+use mir.Val.{toZ, ofZ}
+use mir.Facts.{toZ-pos}
+use Rattle.keys.specs.Key.{unkey}
 use Rattle.keys.specs.Widths.{fitsIn, half16}
 use Rattle.keys.proofs.Bits.{back}
-use Rattle.meaning.specs.Calls.{diffStepOf}
-use Rattle.loftsplice.specs.Says.{saysDifference}
+use Rattle.keys.proofs.Keys.{mag-unkey}
+use Rattle.keys.proofs.Widths.{in-mag}
+use Rattle.ranges.proofs.Bools.{either, clash, not-no}
+use Rattle.meaning.specs.Sequence.{sameZ}
 use Rattle.build.specs.Rule.{Run, begun}
 use Rattle.build.specs.Inner.{valueAt, firstAt, openAt}
+use Rattle.build.proofs.Rule.{same-yes, same-self}
 use Rattle.build.proofs.First.{first-last, first-alone, first-two, open-step}
-use Rattle.build.proofs.Steps.{none-told, some-told, some-fits}
 use borrow.Author.Needs.{needs}
 use Rattle.build.proofs.run_at.Statement.{statement}
 use Rattle.build.proofs.run_at.Tie as tie
@@ -22,12 +29,12 @@ use Rattle.build.proofs.run_at.Tie as tie
 abbrev values : tie.Start → List ℤ
 values s = s .args .values .now
 
--- the places where there is a second value, and where it is near
-abbrev two-there : tie.After-far → tie.Else1
+-- the places where there is a second value, and where it may be near
+abbrev two-there : tie.After-near → tie.Else1
 two-there c = c .before .before .before
 
-abbrev near : tie.After-diff-step → tie.After-far
-near c = let left = c .before .before .before in left .before
+abbrev close : tie.After-continues → tie.Else2
+close c = c .before .before .before
 
 -- the first two values of the run
 abbrev one : tie.Else1 → ℤ
@@ -37,11 +44,29 @@ abbrev two : tie.Else1 → ℤ
 two c = valueAt (values (c .before)) (c .before .args .a + 1)
 
 -- what the two calls tell, at the numbers themselves
-apart : (c : tie.After-far) → c .far .result ≡ true → fitsIn half16 (two (two-there c) -ℤ one (two-there c)) ≡ false
-apart c = rw (back w64 (one (two-there c)) (c .before .before .far-arg .given), back w64 (two (two-there c)) (c .before .far-arg2 .given)) at (c .far .ensures)
+found : (c : tie.After-near) → fitsIn half16 (two (two-there c) -ℤ one (two-there c)) ≡ true → (c .near .result ≤ 65535) × (unkey half16 (c .near .result) ≡ two (two-there c) -ℤ one (two-there c))
+found c = rw (back w64 (one (two-there c)) (c .before .before .near-arg .given), back w64 (two (two-there c)) (c .before .near-arg2 .given)) at (c .near .ensures)
 
-told : (c : tie.After-diff-step) → saysDifference (c .diff-step .result) ≡ diffStepOf (one (two-there (near c))) (two (two-there (near c)))
-told c = rw (back w64 (one (two-there (near c))) (c .before .before .diff-step-arg .given), back w64 (two (two-there (near c))) (c .before .diff-step-arg2 .given)) at (c .diff-step .ensures)
+-- the step, where it may be one
+abbrev step : tie.Else2 → ℤ
+step c = unkey half16 (c .before .near .result)
+
+small : (c : tie.Else2) → mag (step c) < half16
+small c = mag-unkey half16 (c .before .near .result) (omega (arith, c .if2 .left))
+
+widened : (c : tie.Else2) → toZ w64 (c .before .near .result) -ℤ pos 32768 ≡ step c
+widened c = ap (λ z. z -ℤ pos 32768) (toZ-pos w64 {n = c .before .near .result} (omega (arith, c .if2 .left)))
+
+cast-is : (c : tie.Else2) → toZ w64 (ofZ w64 (toZ w64 (c .before .near .result) -ℤ pos 32768)) ≡ step c
+cast-is c = rw (widened c) (back w64 (step c) (omega (arith, small c)))
+
+step-is : (c : tie.Else2) → toZ w16 (ofZ w16 (toZ w64 (ofZ w64 (toZ w64 (c .before .near .result) -ℤ pos 32768)))) ≡ step c
+step-is c = rw (cast-is c) (back w16 (step c) (small c))
+
+told : (c : tie.After-continues) → c .continues .result ≡ sameZ (two (two-there (close c .before)) -ℤ one (two-there (close c .before))) (step (close c))
+told c =
+    let d = two-there (close c .before) in
+    rw (back w64 (one d) (c .before .before .continues-arg .given), back w64 (two d) (c .before .continues-arg2 .given), step-is (close c)) at (c .continues .ensures)
 
 -- there is a second value
 second : (c : tie.Else1) → c .before .args .a + 1 < length (values (c .before))
@@ -65,67 +90,73 @@ returns c =
     let e : firstAt (values (c .before)) (a .a) ≡ begun (valueAt (values (c .before)) (a .a)) = first-last (values (c .before)) (a .a) (omega (arith, c .if1 .taken)) in
     (omega (arith, ap (λ (r : Run). r .count) e), (sym (ap (λ (r : Run). r .step) e), omega (arith, c .if1 .taken)))
 
-mul-far : tie.Need-mul-far
-mul-far c = search needs
+mul-near : tie.Need-mul-near
+mul-near c = search needs
 
-shared-slice-copy-out-far : tie.Need-shared-slice-copy-out-far
-shared-slice-copy-out-far c = search needs
+shared-slice-copy-out-near : tie.Need-shared-slice-copy-out-near
+shared-slice-copy-out-near c = search needs
 
-mul-far-2 : tie.Need-mul-far-2
-mul-far-2 c = search needs
+mul-near-2 : tie.Need-mul-near-2
+mul-near-2 c = search needs
 
-shared-slice-copy-out-far-2 : tie.Need-shared-slice-copy-out-far-2
-shared-slice-copy-out-far-2 c = search needs
+shared-slice-copy-out-near-2 : tie.Need-shared-slice-copy-out-near-2
+shared-slice-copy-out-near-2 c = search needs
 
-far-requires : tie.Need-far-requires
-far-requires c κs = search needs
+near-requires : tie.Need-near-requires
+near-requires c κs = search needs
 
 returns-2 : tie.Need-returns-2
-returns-2 c = alone (two-there (c .before)) (apart (c .before) (c .if2 .taken))
+returns-2 c =
+    let d = two-there (c .before) in
+    alone d (either (fitsIn half16 (two d -ℤ one d)) (λ t. absurd (omega (arith, c .if2 .taken, found (c .before) t .0))) (λ t. t))
 
-mul-diff-step : tie.Need-mul-diff-step
-mul-diff-step c = search needs
+cast-step : tie.Need-cast-step
+cast-step c = record { sfits = omega (arith, c .if2 .left) }
 
-shared-slice-copy-out-diff-step : tie.Need-shared-slice-copy-out-diff-step
-shared-slice-copy-out-diff-step c = search needs
+sub-step : tie.Need-sub-step
+sub-step c = rw (widened c) (record { sfits = omega (arith, small c) })
 
-mul-diff-step-2 : tie.Need-mul-diff-step-2
-mul-diff-step-2 c = search needs
+cast-step-2 : tie.Need-cast-step-2
+cast-step-2 c = rw (cast-is c) (record { sfits = small c })
 
-shared-slice-copy-out-diff-step-2 : tie.Need-shared-slice-copy-out-diff-step-2
-shared-slice-copy-out-diff-step-2 c = search needs
+mul-continues : tie.Need-mul-continues
+mul-continues c = search needs
 
-diff-step-requires : tie.Need-diff-step-requires
-diff-step-requires c κs = search needs
+shared-slice-copy-out-continues : tie.Need-shared-slice-copy-out-continues
+shared-slice-copy-out-continues c = search needs
 
-enum-told : tie.Need-enum-told
-enum-told c = search needs
+mul-continues-2 : tie.Need-mul-continues-2
+mul-continues-2 c = search needs
 
-enum-known-step : tie.Need-enum-known-step
-enum-known-step c = search needs
+shared-slice-copy-out-continues-2 : tie.Need-shared-slice-copy-out-continues-2
+shared-slice-copy-out-continues-2 c = search needs
+
+continues-requires : tie.Need-continues-requires
+continues-requires c κs = search needs
+
+returns-3 : tie.Need-returns-3
+returns-3 c =
+    let k = close (c .before) in
+    let d = two-there (k .before) in
+    let other : sameZ (two d -ℤ one d) (step k) ≡ false = sym (told (c .before)) ∙ not-no _ (c .if3 .taken) in
+    alone d (either (fitsIn half16 (two d -ℤ one d))
+    (λ t. clash (ap (λ z. sameZ (two d -ℤ one d) z) (found (k .before) t .1) ∙ same-self (two d -ℤ one d)) other)
+    (λ t. t))
 
 end-of-requires : tie.Need-end-of-requires
 end-of-requires c κs = search needs
 
-returns-3 : tie.Need-returns-3
-returns-3 c =
-    let d = c .before .before in
-    alone (two-there (near d)) (none-told _ _ (ap saysDifference (sym (c .enum-told .given .1)) ∙ told d))
-
 returns-4 : tie.Need-returns-4
 returns-4 c =
-    let k = c .before in
-    let d = k .before .before .before in
-    let second-there = two-there (near d) in
-    let xs = values (second-there .before) in
-    let a = second-there .before .args .a in
-    let z = k .before .step .given .0 .0 in
-    let says = ap saysDifference (sym (k .before .step .given .1)) ∙ told d in
-    let is : z ≡ two second-there -ℤ one second-there = some-told _ _ z says in
-    let e : firstAt xs a ≡ openAt xs a z (a + 2) = first-two xs a (second second-there) z is (ap (fitsIn half16) is ∙ some-fits _ _ z says) in
-    let b = back w16 z (k .known-told .given .0 .1) in (
-      rw (b, sym e) at (c .end-of .ensures .0),
-      (b ∙ sym (open-step xs a z (a + 2) (omega arith)) ∙ sym (ap (λ (r : Run). r .step) e), c .end-of .ensures .1),
+    let on = c .before in
+    let k = close (on .before) in
+    let d = two-there (k .before) in
+    let xs = values (d .before) in
+    let a = d .before .args .a in
+    let is : step k ≡ two d -ℤ one d = sym (same-yes (two d -ℤ one d) (step k) (sym (told (on .before)) ∙ not-false _ (on .if3 .left))) in
+    let e : firstAt xs a ≡ openAt xs a (step k) (a + 2) = first-two xs a (second d) (step k) is (in-mag half16 (step k) ∙ lt-ltb (mag (step k)) half16 (small k)) in (
+      rw (step-is k, sym e) at (c .end-of .ensures .0),
+      (step-is k ∙ sym (open-step xs a (step k) (a + 2) (omega arith)) ∙ sym (ap (λ (r : Run). r .step) e), c .end-of .ensures .1),
     )
 
 pub run-at-spec : {M : Type 1} → statement M
@@ -134,19 +165,20 @@ run-at-spec =
     (tie.spec
     add-next
     returns
-    mul-far
-    shared-slice-copy-out-far
-    mul-far-2
-    shared-slice-copy-out-far-2
-    far-requires
+    mul-near
+    shared-slice-copy-out-near
+    mul-near-2
+    shared-slice-copy-out-near-2
+    near-requires
     returns-2
-    mul-diff-step
-    shared-slice-copy-out-diff-step
-    mul-diff-step-2
-    shared-slice-copy-out-diff-step-2
-    diff-step-requires
-    enum-told
-    enum-known-step
-    end-of-requires
+    cast-step
+    sub-step
+    cast-step-2
+    mul-continues
+    shared-slice-copy-out-continues
+    mul-continues-2
+    shared-slice-copy-out-continues-2
+    continues-requires
     returns-3
+    end-of-requires
     returns-4)
