@@ -74,3 +74,17 @@ module _ (x y : ℤ) (fx : mag x < half64) (fy : mag y < half64)
       (λ t. rw (le-key half64 x y fx fy, t, sym (up-by (leb-true from to t))))
       (λ t. let k : 18446744073709551615 - r ≡ n = omega arith in
       let d : y -ℤ x ≡ negsuc n = sym (down-by (leb-false from to t)) ∙ ap negsuc k in rw (le-key half64 x y fx fy, t, d, same-self (negsuc n)))
+
+  -- far enough from where it wraps, the pattern alone tells; and the value is as near to there as a step can bring it
+  pub inside-step : (s : ℤ) → mag s < half16 → 32768 ≤ from → from + 32768 ≤ 18446744073709551616 → r ≡ ofSigned 8 s
+      → (sameZ (y -ℤ x) s ≡ true) × (from ≤ to + 32768) × (to ≤ from + 32768)
+  unfolding ofSigned
+  inside-step (pos n) l low high is =
+      let on : to ≡ from + n = omega (arith, keys-wrap x y fx fy r e) in
+      let d : y -ℤ x ≡ pos n = sym (up-by (omega arith)) ∙ ap pos is in
+      (ap (λ z. sameZ z (pos n)) d ∙ same-self (pos n), omega arith, omega arith)
+  inside-step (negsuc n) l low high is =
+      let on : to + suc n ≡ from = omega (arith, keys-wrap x y fx fy r e) in
+      let k : 18446744073709551615 - r ≡ n = omega arith in
+      let d : y -ℤ x ≡ negsuc n = sym (down-by (omega arith)) ∙ ap negsuc k in
+      (ap (λ z. sameZ z (negsuc n)) d ∙ same-self (negsuc n), omega arith, omega arith)

@@ -5,6 +5,8 @@ use mathlib.Core.List.{List}
 use lib.ListN.{length, getD, drop}
 use lib.IntN.{ℤ, pos}
 use denote.Ref.{RefT}
+use Rattle.keys.specs.Key.{key}
+use Rattle.keys.specs.Widths.{half64}
 use Rattle.build.specs.Rule.{Run, begun, runsFrom, runsOf}
 
 -- the first run that an open run and the values after it make
@@ -21,6 +23,10 @@ firstAt values i = headFrom (begun (valueAt values i)) (valueAt values i) (drop 
 -- the same where the values from index a on to before i, with this step, are in the run already
 unfoldable pub openAt : List ℤ → ℕ → ℤ → ℕ → Run
 openAt values a step i = headFrom (record { start = valueAt values a; step = step; count = i - a }) (valueAt values (i - 1)) (drop i values)
+
+-- a value that lies 2 ^ 62 or more from the edges of the i64s
+abbrev pub Inside : ℤ → Type 0
+Inside v = (4611686018427387904 ≤ key half64 v) × (key half64 v ≤ 13835058055282163712)
 
 -- a place for each run in the three arrays
 abbrev pub RoomFor : RefT (List ℤ) → RefT (List ℤ) → RefT (List ℕ) → RefT (List ℤ) → Type 0

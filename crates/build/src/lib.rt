@@ -10,9 +10,10 @@ ghost use Rattle.keys.specs.Widths.{fitsIn, half16};
 ghost use Rattle.meaning.specs.Contracts.{Leaves};
 ghost use Rattle.meaning.specs.Sequence.{sameZ};
 ghost use Rattle.build.specs.Rule.{runsOf, builtFrom};
-ghost use Rattle.build.specs.Inner.{firstAt, openAt, RoomFor};
+ghost use Rattle.build.specs.Inner.{valueAt, firstAt, openAt, Inside, RoomFor};
 ghost use Rattle.build.specs.Says.{saysBuilt, building};
 use codec::unsigned64;
+use keys::bias;
 use meaning::Refusal;
 
 // The run count, or a refusal.
@@ -48,8 +49,8 @@ fn continues(previous: i64, current: i64, step: i16) -> bool
     (previous <= current) == (0 <= step)
 }
 
-// Where a run that has begun at a, with two values and a step, ends.
-fn end_of(values: &[i64], a: usize, step: i16) -> usize
+// Where a run that has begun at a, with two values and a step, ends: value by value.
+fn end_plain(values: &[i64], a: usize, step: i16) -> usize
     requires { ⌜ a + 2 ≤ length (now values) ⌝ }
     ensures { λ r. ⌜ r ≡ a + openAt (now (values .entry)) a step (a + 2) .count ⌝ }
     ensures { λ r. ⌜ r ≤ length (now (values .entry)) ⌝ }
@@ -64,9 +65,55 @@ fn end_of(values: &[i64], a: usize, step: i16) -> usize
     i
 }
 
+// The same by the patterns' difference alone: from a value that far inside, no run of a list comes to where a difference wraps.
+fn end_inside(values: &[i64], a: usize, step: i16) -> usize
+    requires { ⌜ a + 2 ≤ length (now values) ⌝ }
+    requires { ⌜ length (now values) ≤ 4294967295 ⌝ }
+    requires { ⌜ Inside (valueAt (now values) (a + 1)) ⌝ }
+    ensures { λ r. ⌜ r ≡ a + openAt (now (values .entry)) a step (a + 2) .count ⌝ }
+    ensures { λ r. ⌜ r ≤ length (now (values .entry)) ⌝ }
+{
+    let difference = unsigned64(step as i64);
+    let mut i = a + 2;
+    while i < values.len() {
+        if std::num::wrapping_sub_u64(unsigned64(values[i]), unsigned64(values[i - 1]))
+            != difference
+        {
+            return i;
+        }
+        i += 1;
+    }
+    i
+}
+
+// Whether a value lies 2^62 or more from the edges of the i64s.
+fn inside(x: i64) -> bool
+    ensures { λ r. ⌜ (r ≡ true → Inside x) ⌝ }
+{
+    let k = bias(x);
+    if k < 4611686018427387904 {
+        return false;
+    }
+    k <= 13835058055282163712
+}
+
+// Where it ends, by whichever will do.
+fn end_of(values: &[i64], a: usize, step: i16) -> usize
+    requires { ⌜ a + 2 ≤ length (now values) ⌝ }
+    requires { ⌜ length (now values) ≤ 4294967295 ⌝ }
+    ensures { λ r. ⌜ r ≡ a + openAt (now (values .entry)) a step (a + 2) .count ⌝ }
+    ensures { λ r. ⌜ r ≤ length (now (values .entry)) ⌝ }
+{
+    let second = values[a + 1];
+    if inside(second) {
+        return end_inside(values, a, step);
+    }
+    end_plain(values, a, step)
+}
+
 // The run that begins at a.
 fn run_at(values: &[i64], a: usize) -> Stretch
-    requires { ⌜ a < length (now values) ⌝ }
+    requires { ⌜ (a < length (now values)) × (length (now values) ≤ 4294967295) ⌝ }
     ensures { λ r. ⌜ r .end ≡ a + firstAt (now (values .entry)) a .count ⌝ }
     ensures { λ r. ⌜ r .step ≡ firstAt (now (values .entry)) a .step ⌝ }
     ensures { λ r. ⌜ r .end ≤ length (now (values .entry)) ⌝ }
@@ -92,6 +139,7 @@ fn run_at(values: &[i64], a: usize) -> Stretch
 
 // How many runs the rule needs; 4097 if it needs more than 4096, and then no more of the list is read.
 fn count_runs(values: &[i64]) -> usize
+    requires { ⌜ length (now values) ≤ 4294967295 ⌝ }
     ensures { λ r. ⌜ r ≡ min (length (runsOf (now (values .entry)))) 4097 ⌝ }
 {
     let mut n = 0;
@@ -109,6 +157,7 @@ fn count_runs(values: &[i64]) -> usize
 
 // The runs, into the first places of the three arrays.
 fn write_runs(values: &[i64], starts: &mut [i64], ends: &mut [u64], steps: &mut [i16])
+    requires { ⌜ length (now values) ≤ 4294967295 ⌝ }
     requires { ⌜ RoomFor values starts ends steps ⌝ }
     ensures { λ _. ⌜ now (starts .exit) ≡ sets (now (starts .entry)) 0 (builtFrom (now (values .entry)) .starts) ⌝ }
     ensures { λ _. ⌜ now (ends .exit) ≡ sets (now (ends .entry)) 0 (builtFrom (now (values .entry)) .ends) ⌝ }

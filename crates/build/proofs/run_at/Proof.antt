@@ -70,7 +70,7 @@ told c =
 
 -- there is a second value
 second : (c : tie.Else1) → c .before .args .a + 1 < length (values (c .before))
-second c = omega (arith, c .before .pre, c .if1 .left)
+second c = omega (arith, c .before .pre .0, c .if1 .left)
 
 -- it has no step: the run is this one value
 alone : (c : tie.Else1) → fitsIn half16 (two c -ℤ one c) ≡ false

@@ -56,22 +56,22 @@ mul-t14 : tie.Need-mul-t14 Inv-loop μ-loop
 mul-t14 c = search needs
 
 slice-set-from-starts : tie.Need-slice-set-from-starts Inv-loop μ-loop
-slice-set-from-starts c = let i = c .before .before .before in omega (arith, long-starts (i .before), there i, i .before .before .before .pre .0)
+slice-set-from-starts c = let i = c .before .before .before in omega (arith, long-starts (i .before), there i, i .before .before .before .pre .1 .0)
 
 mul-ends : tie.Need-mul-ends Inv-loop μ-loop
 mul-ends c = search needs
 
 slice-write-ends : tie.Need-slice-write-ends Inv-loop μ-loop
-slice-write-ends c = let i = c .before .before .before in omega (arith, long-ends (i .before), there i, i .before .before .before .pre .1)
+slice-write-ends c = let i = c .before .before .before in omega (arith, long-ends (i .before), there i, i .before .before .before .pre .1 .1)
 
 mul-step : tie.Need-mul-step Inv-loop μ-loop
 mul-step c = search needs
 
 slice-set-from-step : tie.Need-slice-set-from-step Inv-loop μ-loop
-slice-set-from-step c = let i = c .before .before .before in omega (arith, long-steps (i .before), there i, i .before .before .before .pre .2)
+slice-set-from-step c = let i = c .before .before .before in omega (arith, long-steps (i .before), there i, i .before .before .before .pre .1 .2)
 
 add-n : tie.Need-add-n Inv-loop μ-loop
-add-n c = let i = c .before .before .before in omega (arith, long-starts (i .before), there i, i .before .before .before .pre .0, long-ends (i .before))
+add-n c = let i = c .before .before .before in omega (arith, long-starts (i .before), there i, i .before .before .before .pre .1 .0, long-ends (i .before))
 
 loop-less : tie.Need-loop-less Inv-loop μ-loop
 loop-less c =
