@@ -119,16 +119,17 @@ fn run_at(values: &[i64], a: usize) -> Stretch
     ensures { λ r. ⌜ r .end ≤ length (now (values .entry)) ⌝ }
 {
     let next = a + 1;
+    let alone = Stretch { end: next, step: 0 };
     if next == values.len() {
-        return Stretch { end: next, step: 0 };
+        return alone;
     }
     let shifted = near(values[a], values[next]);
     if 65535 < shifted {
-        return Stretch { end: next, step: 0 };
+        return alone;
     }
     let step = ((shifted as i64) - 32768) as i16;
     if !continues(values[a], values[next], step) {
-        return Stretch { end: next, step: 0 };
+        return alone;
     }
     let end = end_of(values, a, step);
     Stretch {
@@ -145,7 +146,7 @@ fn count_runs(values: &[i64]) -> usize
     let mut n = 0;
     let mut i = 0;
     while i < values.len() {
-        if 4096 < n {
+        if n == 4097 {
             return n;
         }
         let run = run_at(values, i);
