@@ -26,10 +26,10 @@ use Rattle.build.proofs.Least.{Fair, least}
 
 -- ---- lists
 
-pub in-here : (rs : List Run) (k : ℕ) (d : Run) → k < length rs → In (getD rs k d) rs
+pub in-here : {A : Type 0} (xs : List A) (k : ℕ) (d : A) → k < length xs → In (getD xs k d) xs
 in-here [] k d l = absurd (omega arith)
-in-here (r ∷ rs) zero d l = inl refl
-in-here (r ∷ rs) (suc k) d l = inr (in-here rs k d (omega arith))
+in-here (x ∷ xs) zero d l = inl refl
+in-here (x ∷ xs) (suc k) d l = inr (in-here xs k d (omega arith))
 
 in-snoc : (xs : List Run) (y r : Run) → In r (xs ++ (y ∷ [])) → In r xs ⊎ (r ≡ y)
 in-snoc [] y r (inl e) = inr e

@@ -1,8 +1,14 @@
--- Words of the theorems about a list that comes in pieces. No promise names them. Assumes nothing.
+-- Words of the theorems about a list: as a sequence, and in pieces. No promise names them. Assumes nothing.
 use mathlib.Core.List.{List, [], _∷_, _++_}
-use lib.IntN.{ℤ}
+use lib.ListN.{length, getD}
+use lib.IntN.{ℤ, pos}
+use Rattle.meaning.specs.Sequence.{Sequence}
 use Rattle.build.specs.Rule.{Run, runsFrom, runsOf}
 use Rattle.build.specs.Follows.{lastOf}
+
+-- a list as a sequence
+abbrev pub listed : List ℤ → Sequence
+listed xs = record { size = length xs; at = λ i. getD xs i (pos 0) }
 
 -- what more values make of runs: the last run is still open, the others stay
 unfoldable pub goOn : List Run → List ℤ → List Run

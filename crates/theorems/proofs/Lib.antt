@@ -24,6 +24,7 @@ pub mod Table
 pub mod Parts
 pub mod Batch
 pub mod Refused
+pub mod Handed
 pub mod Reset
 pub mod Each
 pub mod EmptyColumn

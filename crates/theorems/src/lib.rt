@@ -25,6 +25,7 @@
 //   Each          demand 3 answer by answer: the j-th answer is the earliest such element, and none exactly if there is none
 //   AcceptedRuns  a run on a new filter is accepted exactly if it is acceptable
 //   Audit         a number is answered with itself exactly if it is in the column; the filled logs are those that lack it; through a filter
+//   Handed        the same of the list that a presence column was built from
 //   Refused       on a rising presence column no search is refused, so no log is filled by a refusal; on another each is, and would be
 //   ScanRuns      runs on one scan: nothing is stepped past, next alone gives every element, all answer what is expected
 //   RunCalls      a run of calls in one call: refused exactly if, equal to single calls, cut in two, demand 3 and the auditor's theorem of one call
