@@ -2,6 +2,8 @@ use alloc::vec::Vec;
 
 use crate::{raw, Column, Record, Refusal, Scan};
 
+mod build;
+
 /// A column that owns its lists, beside [`Column`], which borrows them; [`ColumnBuf::as_column`] lends it as one. The default is the empty column.
 ///
 /// ```

@@ -15,9 +15,9 @@
 mod filter;
 
 pub use crate::sys::{
-    check, diff_step, filter_current, filter_new, filter_next, filter_next_run, filter_reset,
-    filter_seek, filter_seek_run, get, is_empty, len, list, place, read_record, scan_current,
-    scan_narrow, scan_new, scan_next, scan_next_run, scan_pos, scan_reset, scan_seek,
+    build, check, diff_step, filter_current, filter_new, filter_next, filter_next_run,
+    filter_reset, filter_seek, filter_seek_run, get, is_empty, len, list, place, read_record,
+    scan_current, scan_narrow, scan_new, scan_next, scan_next_run, scan_pos, scan_reset, scan_seek,
     scan_seek_run, write_record,
 };
 pub use filter::{Filter, FilterRan, Limit, NewFilter, Reset, Sifted, Variables};
@@ -231,4 +231,14 @@ pub struct Written {
     pub refusal: u32,
     /// The number of bytes written.
     pub bytes: u64,
+}
+
+/// The run count.
+#[repr(C)]
+#[derive(Clone, Copy, Debug, PartialEq, Eq, Hash)]
+pub struct Built {
+    /// The refusal's number, or 0.
+    pub refusal: u32,
+    /// The run count.
+    pub runs: u64,
 }

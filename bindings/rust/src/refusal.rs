@@ -13,7 +13,7 @@ use core::{error, fmt};
 #[derive(Clone, Copy, Debug, PartialEq, Eq, Hash)]
 #[non_exhaustive]
 pub enum Refusal {
-    /// 1: array lengths differ, or over 4,096 runs.
+    /// 1: array lengths differ, or over 4,096 runs; values to build from that need over 4,096 runs, or are over 4,294,967,295.
     Shape,
     /// 2: an end is not above the one before (the first: above 0), or is over 4,294,967,295.
     Ends,
@@ -48,7 +48,7 @@ pub enum Refusal {
 /// Each refusal with its number, name and condition.
 type Row = (Refusal, u32, &'static str, &'static str);
 const TABLE: [Row; 14] = [
-    (Refusal::Shape, 1, "SHAPE", "array lengths differ, or over 4,096 runs"),
+    (Refusal::Shape, 1, "SHAPE", "array lengths differ, or over 4,096 runs; values to build from that need over 4,096 runs, or are over 4,294,967,295"),
     (Refusal::Ends, 2, "ENDS", "an end is not above the one before (the first: above 0), or is over 4,294,967,295"),
     (Refusal::Reach, 3, "REACH", "a run's last element is outside i64"),
     (Refusal::Index, 4, "INDEX", "element asked at index ≥ length; place asked above length"),

@@ -22,6 +22,18 @@ pub struct Run {
     pub elements: u64,
 }
 
+impl Run {
+    /// The last element. Of a run of a column it is an `i64`, so that nothing wraps.
+    pub(crate) fn last(&self) -> i64 {
+        let apart = u64::from(self.step.unsigned_abs()).wrapping_mul(self.elements - 1);
+        if self.step < 0 {
+            self.start.wrapping_sub_unsigned(apart)
+        } else {
+            self.start.wrapping_add_unsigned(apart)
+        }
+    }
+}
+
 /// The runs of a column, from either side. [`Column::runs`] gives it.
 ///
 /// ```

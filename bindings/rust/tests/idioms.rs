@@ -211,7 +211,7 @@ fn traits() {
         raw::FilterRan,
         raw::Reset,
     )>();
-    value::<(raw::Listed, raw::ReadRecord, raw::Written)>();
+    value::<(raw::Listed, raw::ReadRecord, raw::Written, raw::Built)>();
     default::<(
         Column<'_>,
         ColumnBuf,
