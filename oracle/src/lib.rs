@@ -44,6 +44,7 @@ pub use document::{calls, corpus, model};
 
 pub mod compare;
 pub mod exhaustive;
+pub mod lists;
 #[cfg(feature = "port")]
 pub mod port;
 #[cfg(not(feature = "port"))]

@@ -3,6 +3,8 @@ use crate::calls::*;
 use crate::model::Sieve;
 use loftsplice::raw;
 
+mod outputs;
+
 pub const PRESENT: bool = true;
 
 /// Whether the archive has this call (features `listing` and `record`).
@@ -160,12 +162,12 @@ impl Session {
                 }
             }
             Call::Reset => done(self.moved(raw::scan_reset(scan, starts, ends, steps))),
-            Call::NextRun(places) => ran(*places, |out| {
+            Call::NextRun(places) => outputs::ran(*places, |out| {
                 let r = raw::scan_next_run(scan, starts, ends, steps, out);
                 self.stands(r.scan);
                 (r.refusal, r.count)
             }),
-            Call::SeekRun(targets, places) => ran(*places, |out| {
+            Call::SeekRun(targets, places) => outputs::ran(*places, |out| {
                 let r = raw::scan_seek_run(scan, starts, ends, steps, targets, out);
                 self.stands(r.scan);
                 (r.refusal, r.count)
@@ -189,12 +191,12 @@ impl Session {
                 let f = self.held();
                 self.sifted(raw::filter_seek(f, starts, ends, steps, *target, desk.variables(lists)))
             }
-            Call::FilterNextRun(lists, places) => ran(*places, |out| {
+            Call::FilterNextRun(lists, places) => outputs::ran(*places, |out| {
                 let r = raw::filter_next_run(self.held(), starts, ends, steps, desk.variables(lists), out);
                 self.filter = Some(r.filter);
                 (r.refusal, r.count)
             }),
-            Call::FilterSeekRun(targets, lists, places) => ran(*places, |out| {
+            Call::FilterSeekRun(targets, lists, places) => outputs::ran(*places, |out| {
                 let r = raw::filter_seek_run(self.held(), starts, ends, steps, targets, desk.variables(lists), out);
                 self.filter = Some(r.filter);
                 (r.refusal, r.count)
@@ -223,12 +225,13 @@ impl Session {
                 let d = raw::diff_step(*previous, *current);
                 if d.found == 1 { Said::Value(i64::from(d.step)) } else { Said::None }
             }
+            Call::Build(values, places) => outputs::built(values, *places),
             #[cfg(feature = "listing")]
-            Call::List(l) => listed(runs, l, desk),
+            Call::List(l) => outputs::listed(runs, l, desk),
             #[cfg(feature = "record")]
-            Call::Read(bytes, places) => read(bytes, *places),
+            Call::Read(bytes, places) => outputs::read(bytes, *places),
             #[cfg(feature = "record")]
-            Call::Write(places) => written(runs, *places),
+            Call::Write(places) => outputs::written(runs, *places),
             #[cfg(not(all(feature = "listing", feature = "record")))]
             _ => unreachable!("`has` is asked first"),
         }
@@ -290,67 +293,5 @@ fn done(said: Said) -> Said {
     match said {
         Said::None => Said::Ok,
         other => other,
-    }
-}
-
-/// A run of calls into so many places, filled beforehand, which gives refusal and count; places beyond its values, and all after a refusal, must hold that
-/// still.
-fn ran(places: usize, run: impl FnOnce(&mut [i64]) -> (u32, u64)) -> Said {
-    let mut out = vec![OUT; places];
-    let (refusal, count) = run(&mut out);
-    let count = count as usize;
-    assert!(refusal == 0 || count == 0, "values and a refusal");
-    untouched(&out[count..], OUT);
-    out.truncate(count);
-    if refusal == 0 { Said::Ran(out) } else { Said::Refused(refusal) }
-}
-
-// The calls that the port adds, each with its outputs filled beforehand; places beyond the answer, and all after a refusal, must hold that still.
-
-#[cfg(feature = "listing")]
-fn listed(runs: &Runs, l: &Listing, desk: &mut Desk) -> Said {
-    desk.constants(0, &l.lower);
-    desk.constants(1, &l.upper);
-    let mut out = vec![OUT; l.room];
-    let mut counts = vec![COUNT; l.counts];
-    let (values, kinds) = (&desk.numbers, &desk.kinds);
-    let answer = raw::list(
-        &runs.starts, &runs.ends, &runs.steps, &l.from, &l.to, number(l.wins), &values[0], &kinds[0], &values[1], &kinds[1], &mut out, &mut counts,
-    );
-    let (filled, windows) = if answer.refusal == 0 { (answer.sum as usize, l.from.len()) } else { (0, 0) };
-    untouched(&out[filled..], OUT);
-    untouched(&counts[windows..], COUNT);
-    match answer.refusal {
-        0 => Said::Listed { sum: answer.sum, counts: counts[..windows].to_vec(), out: out[..filled].to_vec() },
-        n => Said::Refused(n),
-    }
-}
-
-#[cfg(feature = "record")]
-fn read(bytes: &[u8], places: [usize; 3]) -> Said {
-    let mut starts = vec![i64::from(PLACE); places[0]];
-    let mut ends = vec![PLACE as u64; places[1]];
-    let mut steps = vec![PLACE; places[2]];
-    let answer = raw::read_record(bytes, &mut starts, &mut ends, &mut steps);
-    let n = if answer.refusal == 0 { answer.runs as usize } else { 0 };
-    untouched(&starts[n..], i64::from(PLACE));
-    untouched(&ends[n..], PLACE as u64);
-    untouched(&steps[n..], PLACE);
-    let runs = Runs { starts: starts[..n].to_vec(), ends: ends[..n].to_vec(), steps: steps[..n].to_vec() };
-    if answer.refusal == 0 { Said::Read { used: answer.used, runs } } else { Said::Refused(answer.refusal) }
-}
-
-#[cfg(feature = "record")]
-fn written(runs: &Runs, places: usize) -> Said {
-    let mut out = vec![BYTE; places];
-    let answer = raw::write_record(&runs.starts, &runs.ends, &runs.steps, &mut out);
-    let n = if answer.refusal == 0 { answer.bytes as usize } else { 0 };
-    untouched(&out[n..], BYTE);
-    if answer.refusal == 0 { Said::Written(out[..n].to_vec()) } else { Said::Refused(answer.refusal) }
-}
-
-fn untouched<T: PartialEq + std::fmt::Debug>(places: &[T], held: T) {
-    if let Some(at) = places.iter().position(|p| *p != held) {
-        panic!("a place beyond the answer was written: {at} from its end holds {:?}", places[at]);
     }
 }

@@ -15,13 +15,13 @@ fn differences(text: &str) -> Vec<String> {
 }
 
 /// P1 to P12, document 02's places, the cases of request 4, scans that do not carry what they stand on, cuts and chained seeks, runs of
-/// calls on a scan and on a filter, with every side that is there.
+/// calls on a scan and on a filter, runs built from lists, with every side that is there.
 #[test]
 fn examples_of_the_documents() {
     let cases = corpus::cases(EXAMPLES).expect("the examples");
-    assert_eq!(cases.len(), 51);
+    assert_eq!(cases.len(), 52);
     let lines: usize = cases.iter().map(|c| c.lines.len()).sum();
-    assert_eq!(lines, 280);
+    assert_eq!(lines, 298);
     assert_eq!(differences(EXAMPLES), Vec::<String>::new());
 }
 
@@ -30,7 +30,9 @@ fn examples_of_the_documents() {
 fn printed_as_read() {
     for line in EXAMPLES.lines().filter(|l| l.contains(" -> ")) {
         let (words, answer) = line.split_once(" -> ").unwrap();
-        assert_eq!(corpus::call(words).unwrap().to_string(), words);
+        let call = corpus::call(words).unwrap().to_string();
+        // what stands in a short form prints in full
+        assert!(call == words || words.contains('*') && corpus::call(&call) == corpus::call(words), "{call}");
         let expected = corpus::expected(answer).unwrap();
         let sieve = expected.mode.map(|mode| oracle::model::Sieve { mode, ..oracle::model::Sieve::OPEN });
         let state = expected.scan.map_or(String::new(), |s| corpus::after(&s, sieve.as_ref()));
@@ -73,6 +75,8 @@ fn every_call_reads_back() {
         Call::FilterSeekRun(vec![i64::MAX], lists.clone(), usize::MAX),
         Call::FilterSeekRun(vec![], Lists::default(), 0),
         Call::Diff(i64::MIN, i64::MAX),
+        Call::Build(vec![], [0, 1, 2]),
+        Call::Build(vec![i64::MAX, -1, -1], [usize::MAX; 3]),
     ] {
         assert_eq!(corpus::call(&call.to_string()), Ok(call.clone()), "{call}");
     }

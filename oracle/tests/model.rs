@@ -182,6 +182,41 @@ fn strict_means_all() {
     assert!(tried > 10_000 && ties > 1_000, "{tried}, {ties}");
 }
 
+/// Document 02, request 1: what the rule makes of a list is a column whose elements are the list again, and no column with these elements has fewer runs.
+#[test]
+fn built_runs_are_the_list_and_least() {
+    // The fewest runs: the best of all ways to cut the list into stretches of one difference, each of which is a step.
+    let least = |list: &[i64]| {
+        let run = |part: &[i64]| {
+            let steps: Vec<_> = part.windows(2).map(|w| oracle::model::diff_step(w[0], w[1])).collect();
+            steps.iter().all(|s| s.is_some() && *s == steps[0])
+        };
+        let mut fewest = vec![0];
+        for end in 1..=list.len() {
+            let last = (0..end).filter(|&start| run(&list[start..end]));
+            fewest.push(last.map(|start| fewest[start] + 1).min().unwrap());
+        }
+        fewest[list.len()]
+    };
+    let build = |list: &[i64]| match Session::new(&Column::new(&Runs::default())).call(&Call::Build(list.to_vec(), [list.len(); 3])) {
+        Said::Built(runs) => runs,
+        other => panic!("{list:?}: {other}"),
+    };
+    let mut dice = oracle::random::Dice(3);
+    let mut tried = 0;
+    for _ in 0..4000 {
+        let mut list = oracle::lists::random(&mut dice);
+        list.truncate(80);
+        let runs = build(&list);
+        let column = Column::new(&runs);
+        assert_eq!(column.check(), Ok(list.len() as u64));
+        assert!((0..list.len()).all(|i| column.at(i as u64) == list[i]), "{list:?}");
+        assert_eq!(runs.starts.len(), least(&list), "{list:?}");
+        tried += u32::from(runs.starts.len() > 2);
+    }
+    assert!(tried > 500, "{tried}");
+}
+
 /// The order of refusals: an input that could be refused by several numbers is refused by the one that document 01 tries first.
 #[test]
 fn order_of_refusals() {

@@ -99,9 +99,11 @@ pub enum Call {
     List(Listing),
     Read(Vec<u8>, [usize; 3]),
     Write(usize),
+    /// The values, and the places of the three arrays.
+    Build(Vec<i64>, [usize; 3]),
 }
 
-/// What a call said. The four with arrays hold the answer's own places; the places beyond are looked at where the call is made (`Filled::whole`).
+/// What a call said. The five with arrays hold the answer's own places; the places beyond are looked at where the call is made (`Filled::whole`).
 #[derive(Clone, Debug, PartialEq, Eq)]
 pub enum Said {
     None,
@@ -115,6 +117,7 @@ pub enum Said {
     Listed { sum: u64, counts: Vec<u64>, out: Vec<i64> },
     Read { used: u64, runs: Runs },
     Written(Vec<u8>),
+    Built(Runs),
 }
 
 /// What the places of an output hold before a call.

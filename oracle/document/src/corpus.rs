@@ -131,7 +131,15 @@ impl Display for Call {
             ),
             Call::Read(b, p) => write!(f, "read {} {} {} {}", hex(b), p[0], p[1], p[2]),
             Call::Write(p) => write!(f, "write {p}"),
+            Call::Build(v, p) => write!(f, "build {} {} {} {}", list(v), p[0], p[1], p[2]),
         }
+    }
+}
+
+/// As an answer has them.
+impl Display for Runs {
+    fn fmt(&self, f: &mut std::fmt::Formatter<'_>) -> std::fmt::Result {
+        write!(f, "starts {} ends {} steps {}", list(&self.starts), list(&self.ends), list(&self.steps))
     }
 }
 
@@ -147,14 +155,8 @@ impl Display for Said {
             Said::Place(r, k, n) => write!(f, "p {r} {k} {n}"),
             Said::Ran(v) => write!(f, "n {} out {}", v.len(), list(v)),
             Said::Listed { sum, counts, out } => write!(f, "sum {sum} counts {} out {}", list(counts), list(out)),
-            Said::Read { used, runs } => write!(
-                f,
-                "runs {} used {used} starts {} ends {} steps {}",
-                runs.starts.len(),
-                list(&runs.starts),
-                list(&runs.ends),
-                list(&runs.steps)
-            ),
+            Said::Read { used, runs } => write!(f, "runs {} used {used} {runs}", runs.starts.len()),
+            Said::Built(runs) => write!(f, "runs {} {runs}", runs.starts.len()),
             Said::Written(b) => write!(f, "bytes {} {}", b.len(), hex(b)),
         }
     }
@@ -171,7 +173,7 @@ pub fn has_state(call: &Call, said: &Said) -> bool {
     match call {
         Call::New => !matches!(said, Said::Refused(_)),
         Call::Check | Call::Place(_) | Call::Element(_) | Call::Diff(..) => false,
-        Call::Set(_) | Call::FilterSet(..) | Call::List(_) | Call::Read(..) | Call::Write(_) => false,
+        Call::Set(_) | Call::FilterSet(..) | Call::List(_) | Call::Read(..) | Call::Write(_) | Call::Build(..) => false,
         _ => true,
     }
 }
@@ -315,8 +317,19 @@ pub fn call(text: &str) -> Parsed<Call> {
         }),
         ["read", b, s, e, t] => Call::Read(bytes(b)?, [number(s)?, number(e)?, number(t)?]),
         ["write", p] => Call::Write(number(p)?),
+        ["build", v, s, e, t] => Call::Build(numbers(v)?, [number(s)?, number(e)?, number(t)?]),
         _ => return Err(format!("'{text}' is no call")),
     })
+}
+
+/// A column as an answer has it, of so many runs.
+fn runs(n: &str, [starts, ends, steps]: [&str; 3]) -> Parsed<Runs> {
+    let runs = Runs { starts: numbers(starts)?, ends: numbers(ends)?, steps: numbers(steps)? };
+    let count: usize = number(n)?;
+    if [runs.starts.len(), runs.ends.len(), runs.steps.len()] != [count; 3] {
+        return Err(format!("{count} runs are said, and lists of another length follow"));
+    }
+    Ok(runs)
 }
 
 fn said(text: &str) -> Parsed<Said> {
@@ -339,14 +352,8 @@ fn said(text: &str) -> Parsed<Said> {
         ["sum", n, "counts", c, "out", o] => {
             Said::Listed { sum: number(n)?, counts: numbers(c)?, out: numbers(o)? }
         }
-        ["runs", n, "used", used, "starts", s, "ends", e, "steps", t] => {
-            let runs = Runs { starts: items(s, number)?, ends: items(e, number)?, steps: items(t, number)? };
-            let count: usize = number(n)?;
-            if [runs.starts.len(), runs.ends.len(), runs.steps.len()] != [count; 3] {
-                return Err(format!("{count} runs are said, and lists of another length follow"));
-            }
-            Said::Read { used: number(used)?, runs }
-        }
+        ["runs", n, "used", used, "starts", s, "ends", e, "steps", t] => Said::Read { used: number(used)?, runs: runs(n, [s, e, t])? },
+        ["runs", n, "starts", s, "ends", e, "steps", t] => Said::Built(runs(n, [s, e, t])?),
         ["bytes", n, b] => {
             let b = bytes(b)?;
             if b.len() != number::<usize>(n)? {
@@ -403,7 +410,7 @@ fn case(rest: &str) -> Parsed<Case> {
     let [n, kind, by] = rest.split(' ').collect::<Vec<_>>()[..] else {
         return Err(format!("'case {rest}' is not number, kind and by"));
     };
-    let kinds = ["scan", "filter", "mixed", "far", "column", "raw", "list", "read", "write"];
+    let kinds = ["scan", "filter", "mixed", "far", "column", "raw", "list", "read", "write", "build"];
     // CORPUS2 has the request from which on the case holds in its place, and any word for the kind; the Rust does not play such a case.
     let from = by.parse::<u32>().is_ok();
     if !from && !kinds.contains(&kind) {

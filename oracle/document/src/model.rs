@@ -285,6 +285,7 @@ impl<'a> Session<'a> {
             Call::List(listing) => list(self.column, listing)?,
             Call::Read(bytes, places) => read(bytes, *places)?,
             Call::Write(places) => write(self.column, *places)?,
+            Call::Build(values, places) => build(values, *places)?,
         })
     }
 
@@ -512,4 +513,24 @@ fn write(column: &Column, places: usize) -> Outcome<Said> {
         put(column.runs.ends[r] - column.begin(r), 4);
     }
     Ok(Said::Written(bytes))
+}
+
+/// Document 02, request 1: "a run starts with one value and step 0; its second value joins if the difference has a step, which becomes the run's; later values
+/// join while the difference equals it; otherwise a new run starts". Refused "1 where the rule needs over 4,096 runs or the list has over 4,294,967,295 values,
+/// then 10".
+fn build(values: &[i64], places: [usize; 3]) -> Outcome<Said> {
+    let mut runs: Vec<(i64, i16, u64)> = Vec::new();
+    for (i, &value) in values.iter().enumerate() {
+        let difference = i.checked_sub(1).and_then(|before| diff_step(values[before], value));
+        match (runs.last_mut(), difference) {
+            (Some((_, step, length)), Some(difference)) if *length == 1 || *step == difference => {
+                *step = difference;
+                *length += 1;
+            }
+            _ => runs.push((value, 0, 1)),
+        }
+    }
+    refuse_if(runs.len() > MOST_RUNS || values.len() as u64 > LONGEST, SHAPE)?;
+    refuse_if(places.iter().any(|&p| p < runs.len()), ROOM)?;
+    Ok(Said::Built(Runs::of(&runs)))
 }

@@ -6,7 +6,7 @@
 use oracle::calls::*;
 use oracle::compare::{self, Bench, Tally, alone, by_hand, sequence};
 use oracle::random::{self, Dice};
-use oracle::{corpus, model, rust};
+use oracle::{corpus, lists, model, rust};
 use std::io::Write;
 
 fn main() {
@@ -69,7 +69,7 @@ fn as_rattle(_: &str, _: u64, _: u64) {
 fn case(d: &mut Dice, number: u64, tally: &mut Tally) -> String {
     let most = if d.once_in(20) { 300 } else { 12 };
     let mut runs = random::column(d, most);
-    let kind = d.pick(&["scan", "scan", "filter", "filter", "mixed", "mixed", "column", "raw", "list", "read", "write"]);
+    let kind = d.pick(&["scan", "scan", "filter", "filter", "mixed", "mixed", "column", "raw", "list", "read", "write", "build"]);
     if (["column", "write"].contains(&kind) && d.once_in(2)) || d.once_in(25) {
         random::damage(d, &mut runs);
     }
@@ -96,20 +96,21 @@ fn case(d: &mut Dice, number: u64, tally: &mut Tally) -> String {
             let text = format!("{} -> ok\n{} -> ok\n", Call::Set(scan), Call::FilterSet(wins, mode)) + &lines.collect::<String>();
             whole(number, kind, false, &runs, text)
         }
-        "list" | "write" | "read" => {
+        "list" | "write" | "read" | "build" => {
             let call = match kind {
                 "list" => {
                     let wins = d.pick(&[Wins::Inclusive, Wins::Exclusive]);
                     random::listing(d, &c, wins)
                 }
                 "write" => Call::Write((6 + 14 * runs.ends.len()).saturating_add_signed(d.pick(&[0, 0, 1, 7, -1]))),
-                _ => random::record(d, &c),
+                "read" => random::record(d, &c),
+                _ => random_build(d),
             };
             let before = tally.rust;
             let said = alone(&mut bench, &call, tally);
             let both = tally.rust > before;
             let none = Runs::default();
-            whole(number, kind, both, if kind == "read" { &none } else { &runs }, format!("{call} -> {said}\n"))
+            whole(number, kind, both, if ["read", "build"].contains(&kind) { &none } else { &runs }, format!("{call} -> {said}\n"))
         }
         _ => {
             let mut calls = random::calls_of(d, &c, &values, 25, kind);
@@ -122,6 +123,15 @@ fn case(d: &mut Dice, number: u64, tally: &mut Tally) -> String {
             whole(number, if far { "far" } else { kind }, rust::PRESENT && !far && !strict && c.check().is_ok(), &runs, lines.collect())
         }
     }
+}
+
+/// A list to build from, into places that are right, longer or short.
+fn random_build(d: &mut Dice) -> Call {
+    let list = lists::random(d);
+    let built = model::Session::new(&model::Column::new(&Runs::default())).call(&Call::Build(list.clone(), [list.len(); 3]));
+    let n = if let Said::Built(runs) = built { runs.starts.len() } else { 4096 };
+    let places = [(); 3].map(|()| n.saturating_add_signed(d.pick(&[0, 0, 0, 0, 1, 3, -1])));
+    Call::Build(list, places)
 }
 
 /// A column call, or making a scan.

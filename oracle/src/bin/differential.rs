@@ -2,7 +2,7 @@
 use oracle::calls::Runs;
 use oracle::compare::{Tally, quiet_panics};
 use oracle::random::Dice;
-use oracle::{exhaustive, port, random, rust};
+use oracle::{exhaustive, lists, port, random, rust};
 use std::time::{Duration, Instant};
 
 fn main() {
@@ -29,6 +29,8 @@ fn main() {
     // A short random run first: it meets most of what can differ within a second.
     randomly(&mut tally, Duration::from_secs(2), seed, begun);
     let levels = if long { exhaustive::LONG } else { exhaustive::QUICK };
+    lists::everything(if long { 6 } else { 5 }, &mut tally);
+    say("with lists to build from", &tally, begun);
     everything(&mut tally, levels, if long { 3 } else { 29 }, begun);
     randomly(&mut tally, seconds.saturating_sub(begun.elapsed()).max(Duration::from_secs(5)), seed.wrapping_add(1), begun);
     say("with random", &tally, begun);

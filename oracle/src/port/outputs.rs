@@ -1,0 +1,90 @@
+//! The calls that write outputs, which are filled beforehand: places beyond the answer, and all after a refusal, must hold that still.
+#[cfg(feature = "listing")]
+use super::{Desk, number};
+use crate::calls::*;
+use loftsplice::raw;
+
+/// A run of calls into so many places, filled beforehand, which gives refusal and count; places beyond its values, and all after a refusal, must hold that
+/// still.
+pub(super) fn ran(places: usize, run: impl FnOnce(&mut [i64]) -> (u32, u64)) -> Said {
+    let mut out = vec![OUT; places];
+    let (refusal, count) = run(&mut out);
+    let count = count as usize;
+    assert!(refusal == 0 || count == 0, "values and a refusal");
+    untouched(&out[count..], OUT);
+    out.truncate(count);
+    if refusal == 0 { Said::Ran(out) } else { Said::Refused(refusal) }
+}
+
+#[cfg(feature = "listing")]
+pub(super) fn listed(runs: &Runs, l: &Listing, desk: &mut Desk) -> Said {
+    desk.constants(0, &l.lower);
+    desk.constants(1, &l.upper);
+    let mut out = vec![OUT; l.room];
+    let mut counts = vec![COUNT; l.counts];
+    let (values, kinds) = (&desk.numbers, &desk.kinds);
+    let answer = raw::list(
+        &runs.starts, &runs.ends, &runs.steps, &l.from, &l.to, number(l.wins), &values[0], &kinds[0], &values[1], &kinds[1], &mut out, &mut counts,
+    );
+    let (filled, windows) = if answer.refusal == 0 { (answer.sum as usize, l.from.len()) } else { (0, 0) };
+    untouched(&out[filled..], OUT);
+    untouched(&counts[windows..], COUNT);
+    match answer.refusal {
+        0 => Said::Listed { sum: answer.sum, counts: counts[..windows].to_vec(), out: out[..filled].to_vec() },
+        n => Said::Refused(n),
+    }
+}
+
+#[cfg(feature = "record")]
+pub(super) fn read(bytes: &[u8], places: [usize; 3]) -> Said {
+    let mut used = 0;
+    let call = |starts: &mut [i64], ends: &mut [u64], steps: &mut [i16]| {
+        let answer = raw::read_record(bytes, starts, ends, steps);
+        used = answer.used;
+        (answer.refusal, answer.runs)
+    };
+    match filled(places, call) {
+        Ok(runs) => Said::Read { used, runs },
+        Err(refusal) => Said::Refused(refusal),
+    }
+}
+
+pub(super) fn built(values: &[i64], places: [usize; 3]) -> Said {
+    let call = |starts: &mut [i64], ends: &mut [u64], steps: &mut [i16]| {
+        let answer = raw::build(values, starts, ends, steps);
+        (answer.refusal, answer.runs)
+    };
+    filled(places, call).map_or_else(Said::Refused, Said::Built)
+}
+
+/// The runs that a call, which gives refusal and run count, writes into three arrays.
+fn filled(places: [usize; 3], call: impl FnOnce(&mut [i64], &mut [u64], &mut [i16]) -> (u32, u64)) -> Result<Runs, u32> {
+    let mut starts = vec![i64::from(PLACE); places[0]];
+    let mut ends = vec![PLACE as u64; places[1]];
+    let mut steps = vec![PLACE; places[2]];
+    let (refusal, runs) = call(&mut starts, &mut ends, &mut steps);
+    let n = if refusal == 0 { runs as usize } else { 0 };
+    assert!(refusal == 0 || runs == 0, "runs and a refusal");
+    untouched(&starts[n..], i64::from(PLACE));
+    untouched(&ends[n..], PLACE as u64);
+    untouched(&steps[n..], PLACE);
+    starts.truncate(n);
+    ends.truncate(n);
+    steps.truncate(n);
+    if refusal == 0 { Ok(Runs { starts, ends, steps }) } else { Err(refusal) }
+}
+
+#[cfg(feature = "record")]
+pub(super) fn written(runs: &Runs, places: usize) -> Said {
+    let mut out = vec![BYTE; places];
+    let answer = raw::write_record(&runs.starts, &runs.ends, &runs.steps, &mut out);
+    let n = if answer.refusal == 0 { answer.bytes as usize } else { 0 };
+    untouched(&out[n..], BYTE);
+    if answer.refusal == 0 { Said::Written(out[..n].to_vec()) } else { Said::Refused(answer.refusal) }
+}
+
+fn untouched<T: PartialEq + std::fmt::Debug>(places: &[T], held: T) {
+    if let Some(at) = places.iter().position(|p| *p != held) {
+        panic!("a place beyond the answer was written: {at} from its end holds {:?}", places[at]);
+    }
+}
