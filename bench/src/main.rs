@@ -24,6 +24,7 @@ pub(crate) mod management {
 #[cfg(rust_text)]
 include!(concat!(env!("OUT_DIR"), "/tree.rs"));
 
+mod building;
 mod calls;
 mod checks;
 mod clock;
@@ -59,6 +60,7 @@ fn main() {
     runs::measure(&mut clock);
     sifting::measure(&mut clock);
     record::measure(&mut clock);
+    building::measure(&mut clock);
     let table = page::table(&clock);
     println!("{table}");
     if !clock.only.is_empty() {

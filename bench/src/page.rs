@@ -40,6 +40,7 @@ fn each(unit: &str) -> &'static str {
         "run" => " a run",
         "call" => " a call",
         "target" => " a target",
+        "value" => " a value",
         _ => "",
     }
 }

@@ -118,3 +118,41 @@ fn merged(
     }
     targets.len()
 }
+
+/// The runs of a list by the rule of request 1, into three lists: counted first, so that nothing is written where it is refused 1 or 10.
+#[inline(never)]
+pub fn build(values: &[i64], starts: &mut [i64], ends: &mut [u64], steps: &mut [i16]) -> Result<usize, u32> {
+    if values.len() > 4_294_967_295 {
+        return Err(1);
+    }
+    let mut count = 0;
+    let mut rest = values;
+    while !rest.is_empty() {
+        if count == 4096 {
+            return Err(1);
+        }
+        rest = &rest[first_run(rest).0..];
+        count += 1;
+    }
+    if starts.len() < count || ends.len() < count || steps.len() < count {
+        return Err(10);
+    }
+    let mut from = 0;
+    for ((start, end), place) in starts.iter_mut().zip(ends).zip(steps).take(count) {
+        let (length, step) = first_run(&values[from..]);
+        *start = values[from];
+        from += length;
+        *end = from as u64;
+        *place = step;
+    }
+    Ok(count)
+}
+
+/// Length and step of the run that a list begins with.
+#[inline(always)]
+fn first_run(values: &[i64]) -> (usize, i16) {
+    let step = values.get(1).and_then(|second| i16::try_from(second.checked_sub(values[0])?).ok());
+    let Some(step) = step else { return (1, 0) };
+    let other = values.windows(2).position(|pair| pair[1].checked_sub(pair[0]) != Some(i64::from(step)));
+    (other.map_or(values.len(), |at| at + 1), step)
+}
