@@ -6,8 +6,8 @@ use crate::random::Dice;
 
 /// Values whose differences are steps at either edge, or just are none.
 const NEAR: [i64; 7] = [0, 1, 2, 4, 32_767, 32_768, -32_768];
-/// Values whose differences are no i64 at all, or just are.
-const FAR: [i64; 6] = [i64::MIN, i64::MIN + 1, -1, 0, i64::MAX - 1, i64::MAX];
+/// Values whose differences are no i64 at all, or just are, and some half way to an edge.
+const FAR: [i64; 8] = [i64::MIN, i64::MIN + 1, -(1 << 62), -1, 0, 1 << 62, i64::MAX - 1, i64::MAX];
 
 /// Every list of up to so many values, and the limits.
 pub fn everything(most: usize, tally: &mut Tally) {
@@ -70,7 +70,7 @@ pub fn random(d: &mut Dice) -> Vec<i64> {
             2 => d.word() as i64 >> d.below(60),
             _ => step,
         };
-        let extreme = d.once_in(50).then(|| d.pick(&[i64::MIN, i64::MIN + 1, i64::MAX - 1, i64::MAX]));
+        let extreme = d.once_in(50).then(|| d.pick(&FAR));
         list.push(extreme.or(last.checked_add(step)).unwrap_or(0));
     }
     list
