@@ -94,7 +94,7 @@ def relation(statement):
     infix = next((sign for sign in '→×⊎≡≤' if f' {sign} ' in flat), '')
     if front and infix not in ('→', '×', '⊎'):
         return '≡' if front[1] else front[2]
-    return infix or flat.split()[0]
+    return infix or (flat.split() or [statement])[0]  # printed only as far as an open bracket: it is like no other
 
 
 def fact(says):
