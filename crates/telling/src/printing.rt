@@ -29,10 +29,15 @@ fn reason(why: Refusal) {
         Refusal::Cut => message(b"fewer than 4 bytes, or fewer than the length says\n"),
         Refusal::Kind => message(b"the kind is not 1\n"),
         Refusal::Size => message(b"the length is no record's\n"),
+        Refusal::Count => message(b"there are too many records\n"),
+        Refusal::Range => message(b"an element is no record number\n"),
+        Refusal::Profile => message(b"the profile is neither 1 nor 2\n"),
+        Refusal::Falling => message(b"a run falls\n"),
+        Refusal::Total => message(b"the sum over all windows is too large\n"),
     }
 }
 
-// A refusal's name in document 01, and a line end.
+// A refusal's name in documents 01 and 02, and a line end.
 fn name(why: Refusal) {
     match why {
         Refusal::Shape => message(b" SHAPE\n"),
@@ -48,6 +53,11 @@ fn name(why: Refusal) {
         Refusal::Cut => message(b" CUT\n"),
         Refusal::Kind => message(b" KIND\n"),
         Refusal::Size => message(b" SIZE\n"),
+        Refusal::Count => message(b" COUNT\n"),
+        Refusal::Range => message(b" RANGE\n"),
+        Refusal::Profile => message(b" PROFILE\n"),
+        Refusal::Falling => message(b" FALLING\n"),
+        Refusal::Total => message(b" TOTAL\n"),
     }
 }
 
