@@ -87,7 +87,7 @@ bitmap-says p n i l =
 
 -- ---- nothing is present among zeros
 
-abbrev zeros : ℕ → List ℕ
+abbrev pub zeros : ℕ → List ℕ
 zeros n = replicate n 0
 
 zeros-at : (n j : ℕ) → getD (zeros n) j 0 ≡ 0

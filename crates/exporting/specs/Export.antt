@@ -1,0 +1,41 @@
+-- Document 02, request 3: "Export writes the bitmap of a rising column, with zeros past the count in its last byte, and answers the bytes written."
+-- Assumes nothing.
+use Prim.Native.Nat.{ℕ}
+use mathlib.Core.Bool.{Bool, not, _&&_}
+use mathlib.Core.List.{List, [], _∷_}
+use lib.Dec.{ltb}
+use lib.IntN.{ℤ, pos}
+use lib.Signed.{ltZ}
+use Rattle.ranges.specs.Ranges.{allIn}
+use Rattle.meaning.specs.declared.Refusal.the-variants.{Shape, Ends, Reach, Order, Room, Count, Range}
+use Rattle.meaning.specs.Refusals.{Said, Gives, Number, Trial, tried}
+use Rattle.meaning.specs.Sequence.{Sequence, Source, sameZ, rises}
+use Rattle.bits.specs.Bitmap.{bytesFor, bitmapOf}
+
+-- whether a number is a record number, of count records
+unfoldable pub isRecord : ℕ → ℤ → Bool
+isRecord count z = not (ltZ z (pos 0)) && ltZ z (pos count)
+
+-- whether each element is one
+unfoldable pub allRecords : ℕ → Sequence → Bool
+allRecords count q = allIn (λ k. isRecord count (q .at k)) 0 (q .size)
+
+-- whether record i is an element
+unfoldable pub carries : Sequence → ℕ → Bool
+carries q i = not (allIn (λ k. not (sameZ (q .at k) (pos i))) 0 (q .size))
+
+-- "14 COUNT for more records than that, before all others; .. on export then 1, 2, 3, 7 for a column that doesn't rise, 15 RANGE for an element
+-- that is no record number, 10"
+abbrev pub exportTests : Source → ℕ → ℕ → List Trial
+exportTests p count room =
+    record { why = Count; holds = ltb 524288 count } ∷ record { why = Shape; holds = p .shape } ∷ record { why = Ends; holds = p .ends }
+    ∷ record { why = Reach; holds = p .reach } ∷ record { why = Order; holds = not (rises (p .sequence) 0 (p .sequence .size)) }
+    ∷ record { why = Range; holds = not (allRecords count (p .sequence)) } ∷ record { why = Room; holds = ltb room (bytesFor count) } ∷ []
+
+-- export: the bytes written, into an output of so many
+unfoldable pub exportOf : Source → ℕ → ℕ → Said ℕ
+exportOf p count room = tried Number (exportTests p count room) (Gives (bytesFor count))
+
+-- and what they are: the bitmap of what is an element. No element is past the count.
+abbrev pub exportedBytes : Source → ℕ → List ℕ
+exportedBytes p count = bitmapOf (carries (p .sequence)) 0 (bytesFor count)
