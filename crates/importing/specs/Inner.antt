@@ -1,0 +1,34 @@
+-- What the inner functions of the import tell each other. No promise of a public call names it. Assumes nothing.
+use Prim.Native.Nat.{ℕ, suc, _+_, _*_, _<_, _≤_}
+use mathlib.Core.Path.{_≡_}
+use mathlib.Core.Bool.{Bool, true}
+use mathlib.Core.List.{List, _∷_, _++_}
+use lib.ListN.{length}
+use lib.IntN.{ℤ, pos}
+use denote.Ref.{RefT}
+use Rattle.meaning.specs.Column.{offset}
+use Rattle.meaning.specs.Parts.{each}
+use Rattle.build.specs.Rule.{runsOf}
+use Rattle.importing.specs.Import.{recordsIn, presentIn}
+
+-- a record at which the test holds, or the count
+abbrev pub Stands : (ℕ → Bool) → ℕ → ℕ → Type 0
+Stands p count at = (at ≤ count) × (at < count → p at ≡ true)
+
+-- of the records from at on, the first are at, at + by, .. up to at + by · more
+abbrev pub Strip : (ℕ → Bool) → ℕ → ℕ → ℕ → ℕ → Type 0
+Strip p count at by more = recordsIn p at count ≡ each (offset (pos at) (pos by)) (suc more) ++ recordsIn p (suc (at + by * more)) count
+
+-- the rule's first run of the records from at on is this one, and the next run begins at next
+pub record First (p : ℕ → Bool) (count at step n next : ℕ) : Type 0 where
+  pub is : runsOf (recordsIn p at count) ≡ (record { start = pos at; step = pos step; count = n } ∷ runsOf (recordsIn p next count))
+  pub after : at + n ≤ next
+  pub some : 0 < n
+  pub stands : Stands p count next
+  pub small : step ≤ 32767
+
+-- a place for each run in the three arrays
+abbrev pub RoomFor : RefT (List ℕ) → ℕ → RefT (List ℤ) → RefT (List ℕ) → RefT (List ℤ) → Type 0
+RoomFor bytes count starts ends steps =
+    (length (runsOf (presentIn (bytes .now) count)) ≤ length (starts .now)) × (length (runsOf (presentIn (bytes .now) count)) ≤ length (ends .now))
+    × (length (runsOf (presentIn (bytes .now) count)) ≤ length (steps .now))

@@ -1,0 +1,3 @@
+pub mod Import
+pub mod Says
+pub mod Inner
