@@ -6,7 +6,7 @@ use mathlib.Core.List.{List, [], _∷_, _++_}
 use mathlib.Core.Logic.{_↔_, ⊎-elim}
 use mathlib.Core.Option.{some, none}
 use native.Mathlib.Omega.{arith}
-use borrow.Author.Tests.{ltb-true, lt-ltb, le-ltb}
+use borrow.Author.Tests.{lt-ltb, le-ltb}
 use lib.Dec.{ltb}
 use lib.IntN.{ℤ, pos}
 use lib.Signed.{ltZ}
@@ -19,9 +19,10 @@ use Rattle.ranges.proofs.Reading.{same-test}
 use Rattle.ranges.proofs.Spans.{First, first-known, lt-or-ge}
 use Rattle.meaning.specs.Refusals.{Gives}
 use Rattle.meaning.specs.Outputs.{after}
-use Rattle.meaning.specs.Sequence.{Sequence, Source, sameZ}
+use Rattle.meaning.specs.Sequence.{Sequence, Source, sameZ, carries}
 use Rattle.meaning.specs.Parts.{each}
 use Rattle.meaning.proofs.Judging.{none-given}
+use Rattle.meaning.proofs.Carried.{same-is, carries-exactly-if}
 use Rattle.meaning.proofs.Parts.{each-is}
 use Rattle.loftsplice.specs.declared.scan.Scan.{Scan}
 use Rattle.loftsplice.specs.Scan.{fresh}
@@ -30,7 +31,7 @@ use Rattle.theorems.specs.Exact.{accepted}
 use Rattle.theorems.specs.Runs.{listing}
 use Rattle.theorems.specs.Audit.{Holds, ascendingFrom, ascending}
 use Rattle.theorems.proofs.RunCalls.{seek-run-does, seek-run-found-exactly-if}
-use Rattle.presence.specs.Presence.{indexOf, carries, flagOf, flagsOf}
+use Rattle.presence.specs.Presence.{flagOf, flagsOf}
 use Rattle.presence.specs.Inner.{markAt, marks}
 
 -- ---- numbers that do not fall
@@ -52,31 +53,6 @@ up-first ks n l f = up-list (take n ks) pair
     pair j m =
         let b : suc j < n = omega (arith, length-take n ks) in
         rw (getD-take n ks (suc j) (pos 0) b, getD-take n ks j (pos 0) (omega arith)) (f j b)
-
--- ---- a number that is carried
-
-pub same-is : (v w : ℤ) → (sameZ v w ≡ true) ↔ (v ≡ w)
-same-is v w = (
-  λ h. lt-same v w (not-no (ltZ v w) (and-left (not (ltZ v w)) (not (ltZ w v)) h)) (not-no (ltZ w v) (and-right (not (ltZ v w)) (not (ltZ w v)) h)),
-  λ e. rw (e, lt-self w),
-)
-
--- it is an element
-pub carries-exactly-if : (q : Sequence) (k : ℤ) → (carries q k ≡ true) ↔ Holds q 0 (q .size) k
-unfolding carries
-carries-exactly-if q k = (there (indexOf q k) (first-known is 0 (q .size)), back (indexOf q k) (first-known is 0 (q .size)))
-  where
-    is : ℕ → Bool
-    is i = sameZ (q .at i) k
-
-    there : (i : ℕ) → First is 0 (q .size) i → ltb i (q .size) ≡ true → Holds q 0 (q .size) k
-    there i f h = let l = ltb-true i (q .size) h in (i, f .from, l, same-is (q .at i) k .0 (f .holds l))
-
-    back : (i : ℕ) → First is 0 (q .size) i → Holds q 0 (q .size) k → ltb i (q .size) ≡ true
-    back i f (j, a, b, e) = ⊎-elim
-        (λ (l : i < q .size). lt-ltb i (q .size) l)
-        (λ (l : q .size ≤ i). clash (same-is (q .at j) k .1 e) (f .before j a (omega arith)))
-        (lt-or-ge i (q .size))
 
 -- ---- what a run of seeks tells
 

@@ -6,20 +6,11 @@ use mathlib.Core.Option.{Option}
 use lib.Dec.{ltb}
 use lib.IntN.{ℤ}
 use lib.ListN.{length}
-use Rattle.ranges.specs.Ranges.{firstFrom}
 use Rattle.meaning.specs.declared.Refusal.{Refusal}
 use Rattle.meaning.specs.declared.Refusal.the-variants.{Order, Room}
 use Rattle.meaning.specs.Refusals.{Word, fine, Said, Gives, Number, also, judged}
-use Rattle.meaning.specs.Sequence.{Sequence, Source, onSource, sameZ, rises}
+use Rattle.meaning.specs.Sequence.{Sequence, Source, onSource, carries, rises}
 use Rattle.loftsplice.specs.Scan.{fresh, seekOf, posOf}
-
--- the first index whose element is k; the length, where there is none
-abbrev pub indexOf : Sequence → ℤ → ℕ
-indexOf q k = firstFrom (λ i. sameZ (q .at i) k) 0 (q .size)
-
--- "some element of the column is k"
-unfoldable pub carries : Sequence → ℤ → Bool
-carries q k = ltb (indexOf q k) (q .size)
 
 -- a number's flag: 1 if it is carried, 0 if it is filled
 abbrev pub flagOf : Sequence → ℤ → ℕ

@@ -3,36 +3,24 @@ use Prim.Native.Nat.{ℕ, zero, suc, _+_, _-_, _≤_, _<_}
 use mathlib.Core.Path.{_≡_, refl, sym, ap, _∙_}
 use mathlib.Core.Logic.{⊎-elim}
 use mathlib.Core.Bool.{Bool, true, false, not}
-use mathlib.Core.List.{List, [], _∷_, _++_, append-assoc, append-nil}
+use mathlib.Core.List.{List, [], _∷_, _++_}
 use native.Mathlib.Omega.{arith}
-use native.Mathlib.Nat.{le-refl, add-zero, zero-add}
+use native.Mathlib.Nat.{le-refl, zero-add}
 use native.Mathlib.Numerals.{add-one}
 use lib.IntN.{ℤ, pos}
 use lib.Signed.{ltZ}
 use lib.ListN.{length, getD, set, take, drop, length-drop}
 use lib.Seq.{sets, length-sets, take-all}
-use Rattle.ranges.specs.Ranges.{firstFrom}
 use Rattle.ranges.proofs.Bools.{clash}
 use Rattle.ranges.proofs.Spans.{first-known, first-to, first-is, first-unique, lt-or-ge}
 use Rattle.meaning.specs.Sequence.{Sequence, firstNotBelow}
 use Rattle.meaning.specs.Column.{offset}
 use Rattle.meaning.specs.Parts.{joined, each}
 use Rattle.meaning.proofs.Elements.{oneRun, offset-zero}
-use Rattle.meaning.proofs.Parts.{each-length, each-at, each-is, each-more, each-filled}
+use Rattle.meaning.proofs.Parts.{each-length, each-more, each-filled}
 use Rattle.run_calls.specs.Inner.{landed, landings, reached, Strip, Hop, Hopped}
 
 -- ---- lists by index
-
--- a list of values in two parts
-pub each-join : {A : Type 0} (f : ℕ → A) (k n : ℕ) → each f (k + n) ≡ each f k ++ each (λ j. f (k + j)) n
-unfolding joined
-each-join f k zero = rw add-zero (sym (append-nil (each f k)))
-each-join f k (suc n) =
-    let e : k + suc n ≡ suc (k + n) = omega arith in
-    ap (each f) e ∙ ap (λ l. l ++ (f (k + n) ∷ [])) (each-join f k n) ∙ append-assoc (each f k) (each (λ j. f (k + j)) n) (f (k + n) ∷ [])
-
-pub each-same : (f g : ℕ → ℤ) (n : ℕ) → ((k : ℕ) → k < n → f k ≡ g k) → each f n ≡ each g n
-each-same f g n h = each-is f (pos 0) (each g n) n (sym (each-length g n)) (λ k l. h k l ∙ sym (each-at g (pos 0) k n l))
 
 -- the targets before the first that is above the last element, of n
 abbrev pub Before : ℤ → List ℤ → ℕ → ℕ → Type 0
@@ -53,13 +41,6 @@ rest-is l k = take-all (length l - k) (drop k l) (rw length-drop (le-refl _))
 
 pub rest-long : (l : List ℤ) (k n : ℕ) → k + n ≤ length l → n ≤ length (take (length l - k) (drop k l))
 rest-long l k n h = rw (rest-is l k, length-drop) (omega arith)
-
--- a first that lies past some indices at which the test fails
-pub first-skip : (p : ℕ → Bool) (a i b : ℕ) → a ≤ i → i ≤ b → ((k : ℕ) → a ≤ k → k < i → p k ≡ false) → firstFrom p a b ≡ firstFrom p i b
-first-skip p a i b l m h =
-    let f = first-known p i b in
-    first-unique p a b (firstFrom p i b) (omega (arith, f .from)) (first-to p i b m)
-    (λ k u v. ⊎-elim (λ (g : k < i). h k u g) (λ (g : i ≤ k). f .before k g v) (lt-or-ge k i)) (f .holds)
 
 -- ---- over any sequence
 

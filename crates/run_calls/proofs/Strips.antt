@@ -11,7 +11,7 @@ use lib.Signed.{ltZ, mag}
 use Rattle.ranges.specs.Ranges.{firstFrom}
 use Rattle.ranges.proofs.Bools.{clash}
 use Rattle.ranges.proofs.Order.{lt-le}
-use Rattle.ranges.proofs.Spans.{first-known, first-to, lt-or-ge}
+use Rattle.ranges.proofs.Spans.{first-known, first-to, first-skip, lt-or-ge}
 use Rattle.keys.specs.Widths.{fitsIn, half64}
 use Rattle.keys.proofs.Widths.{in-mag, convex}
 use Rattle.meaning.specs.Sequence.{rises, firstNotBelow}
@@ -21,7 +21,6 @@ use Rattle.meaning.proofs.Soundness.{Sound}
 use Rattle.meaning.proofs.Rise.{rises-at, later-above, before-below, at-in, at-first, step-in}
 use Rattle.meaning.proofs.Elements.{offset-on}
 use Rattle.run_calls.specs.Inner.{Strip}
-use Rattle.run_calls.proofs.Landings.{first-skip}
 
 module _ (c : Column) (end from : ℕ) where
   -- a run that is entered at an index of the window

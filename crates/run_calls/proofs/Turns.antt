@@ -20,10 +20,10 @@ use Rattle.meaning.specs.Parts.{each, joined}
 use Rattle.meaning.proofs.Runs.{before-is}
 use Rattle.meaning.proofs.Soundness.{Sound}
 use Rattle.meaning.proofs.Elements.{oneRun}
-use Rattle.meaning.proofs.Parts.{each-length}
+use Rattle.meaning.proofs.Parts.{each-length, each-same, each-join}
 use Rattle.meaning.proofs.Paste.{front-length, rest-back}
 use Rattle.run_calls.specs.Inner.{landed, landings, reached}
-use Rattle.run_calls.proofs.Landings.{each-join, each-same, reached-known, landed-none, landed-on, landed-same, strip-lands}
+use Rattle.run_calls.proofs.Landings.{reached-known, landed-none, landed-on, landed-same, strip-lands}
 use Rattle.run_calls.proofs.Strips.{Entered, strip-at, after, last-there, later-run, later, there, skipped, enters}
 
 module _ (c : Column) (end from : ℕ) where
@@ -155,7 +155,7 @@ module _ (c : Column) (s : Sound c) (end from : ℕ) (fit : end ≤ sizeOf c) (u
             ∙ ap (λ l. l ++ drop (k + made) old) (sym joins)
           where
             joins : each gives (k + made) ≡ each gives k ++ landings (oneRun base (stepOf c run) (upto - index)) (upto - index) ts 0 made
-            joins = each-join gives k made ∙ ap (λ l. each gives k ++ l) (each-same (λ j. gives (k + j)) _ made (λ j l. at-strip j l))
+            joins = each-join gives k made ∙ ap (λ l. each gives k ++ l) (each-same (pos 0) (λ j. gives (k + j)) _ made (λ j l. at-strip j l))
               where
                 at-strip : (j : ℕ) → j < made → gives (k + j) ≡ offset base (stepOf c run) (landed (oneRun base (stepOf c run) (upto - index)) (upto - index) ts 0 (suc j))
                 at-strip j l =
