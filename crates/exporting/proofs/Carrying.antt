@@ -12,11 +12,11 @@ use lib.ListN.{length}
 use Rattle.ranges.specs.Ranges.{allFor, allIn}
 use Rattle.ranges.proofs.Bools.{either, clash, or-left, or-right, not-no, not-yes}
 use Rattle.ranges.proofs.Spans.{in-all, all-in, lt-or-ge}
-use Rattle.meaning.specs.Sequence.{sameZ}
+use Rattle.meaning.specs.Sequence.{sameZ, carries}
 use Rattle.meaning.specs.Column.{Column, runs, sizeOf, startOf, stepOf, endOf, endBefore, offset, elementAt, sequenceOf}
 use Rattle.meaning.proofs.Soundness.{Sound}
 use Rattle.meaning.proofs.Rise.{at-in}
-use Rattle.exporting.specs.Export.{carries}
+use Rattle.exporting.specs.Export.{carriesRecord}
 use Rattle.exporting.specs.Inner.{someIn, inSteps, Marked, Inside, firstAt, moreOf, floorOf, allFit}
 use Rattle.exporting.proofs.Marks.{mark-as, mark-none, mark-both}
 use Rattle.exporting.proofs.Fitting.{fit-at, fit-run, fit-last}
@@ -47,7 +47,7 @@ same-nat x i = either (eqb i x)
 abbrev pub carriesTo : Column → ℕ → ℕ → Bool
 carriesTo c m i = someIn (λ k. sameZ (elementAt c k) (pos i)) 0 m
 
-pub carries-all : (c : Column) (i : ℕ) → carriesTo c (sizeOf c) i ≡ carries (sequenceOf c) i
+pub carries-all : (c : Column) (i : ℕ) → carriesTo c (sizeOf c) i ≡ carriesRecord (sequenceOf c) i
 unfolding carries
 carries-all c i = refl
 

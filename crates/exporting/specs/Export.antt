@@ -9,7 +9,7 @@ use lib.Signed.{ltZ}
 use Rattle.ranges.specs.Ranges.{allIn}
 use Rattle.meaning.specs.declared.Refusal.the-variants.{Shape, Ends, Reach, Order, Room, Count, Range}
 use Rattle.meaning.specs.Refusals.{Said, Gives, Number, Trial, tried}
-use Rattle.meaning.specs.Sequence.{Sequence, Source, sameZ, rises}
+use Rattle.meaning.specs.Sequence.{Sequence, Source, carries, rises}
 use Rattle.bits.specs.Bitmap.{bytesFor, bitmapOf}
 
 -- whether a number is a record number, of count records
@@ -21,8 +21,8 @@ unfoldable pub allRecords : ℕ → Sequence → Bool
 allRecords count q = allIn (λ k. isRecord count (q .at k)) 0 (q .size)
 
 -- whether record i is an element
-unfoldable pub carries : Sequence → ℕ → Bool
-carries q i = not (allIn (λ k. not (sameZ (q .at k) (pos i))) 0 (q .size))
+abbrev pub carriesRecord : Sequence → ℕ → Bool
+carriesRecord q i = carries q (pos i)
 
 -- "14 COUNT for more records than that, before all others; .. on export then 1, 2, 3, 7 for a column that doesn't rise, 15 RANGE for an element
 -- that is no record number, 10"
@@ -38,4 +38,4 @@ exportOf p count room = tried Number (exportTests p count room) (Gives (bytesFor
 
 -- and what they are: the bitmap of what is an element. No element is past the count.
 abbrev pub exportedBytes : Source → ℕ → List ℕ
-exportedBytes p count = bitmapOf (carries (p .sequence)) 0 (bytesFor count)
+exportedBytes p count = bitmapOf (carriesRecord (p .sequence)) 0 (bytesFor count)

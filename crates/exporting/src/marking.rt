@@ -7,7 +7,7 @@ ghost use lib.ListN.{length, replicate};
 ghost use Rattle.meaning.specs.Column.{sound};
 ghost use Rattle.meaning.specs.Contracts.{columnNow, sequence};
 ghost use Rattle.bits.specs.Bitmap.{isSet};
-ghost use Rattle.exporting.specs.Export.{carries};
+ghost use Rattle.exporting.specs.Export.{carriesRecord};
 ghost use Rattle.exporting.specs.Inner.{inSteps, inSpan, Marked, Inside, allFit};
 use keys::bias;
 use keys::size16;
@@ -107,7 +107,7 @@ pub(crate) fn mark_runs(starts: &[i64], ends: &[u64], steps: &[i16], count: u64,
     requires { ⌜ sound (columnNow starts ends steps) ≡ true ⌝ }
     requires { ⌜ allFit (columnNow starts ends steps) count ≡ true ⌝ }
     requires { ⌜ (count ≤ 524288) × (count ≤ 8 * length (now bytes)) ⌝ }
-    ensures { λ r. ⌜ Marked (now (bytes .entry)) (now (bytes .exit)) (carries (sequence starts ends steps)) ⌝ }
+    ensures { λ r. ⌜ Marked (now (bytes .entry)) (now (bytes .exit)) (carriesRecord (sequence starts ends steps)) ⌝ }
 {
     let mut low = 0u64;
     let mut r = 0;

@@ -12,11 +12,10 @@ use lib.IntN.{ℤ, pos}
 use lib.Signed.{ltZ}
 use lib.ListN.{length, getD, take, drop, length-take, length-append, length-map, List·getD-append, List·getD-map}
 use lib.Seq.{getD-take}
-use Rattle.ranges.proofs.Bools.{clash, and-left, and-right, and-both, not-yes, not-no}
-use Rattle.ranges.proofs.Order.{lt-self, lt-same}
+use Rattle.ranges.proofs.Bools.{clash, and-both, not-yes}
 use Rattle.ranges.proofs.Lists.{there-same}
 use Rattle.ranges.proofs.Reading.{same-test}
-use Rattle.ranges.proofs.Spans.{First, first-known, lt-or-ge}
+use Rattle.ranges.proofs.Spans.{lt-or-ge}
 use Rattle.meaning.specs.Refusals.{Gives}
 use Rattle.meaning.specs.Outputs.{after}
 use Rattle.meaning.specs.Sequence.{Sequence, Source, sameZ, carries}

@@ -10,7 +10,7 @@ use Rattle.meaning.specs.Sequence.{rises}
 use Rattle.meaning.specs.Column.{Column, sizeOf, sequenceOf}
 use Rattle.meaning.proofs.Soundness.{sound-parts}
 use Rattle.bits.specs.Bitmap.{bytesFor}
-use Rattle.exporting.specs.Export.{allRecords, carries}
+use Rattle.exporting.specs.Export.{allRecords, carriesRecord}
 use Rattle.exporting.proofs.Fitting.{fits-exactly}
 use Rattle.exporting.proofs.Cases.{left-is, says-order, says-range, says-room, says-bytes}
 use borrow.Author.Needs.{needs}
@@ -92,7 +92,7 @@ returns-4 c =
     let f = e .before in
     let s = st f in (
       says-bytes (up s) (records s) (s .args .count) (room s) (sym (not-false (f .fits2 .result) (e .if1 .left)) ∙ told f) (t .if3 .left),
-      left-is (carries (sequenceOf (col s))) (bytesFor (s .args .count)) _ (s .args .out .now) (l .fill .ensures),
+      left-is (carriesRecord (sequenceOf (col s))) (bytesFor (s .args .count)) _ (s .args .out .now) (l .fill .ensures),
     )
 
 pub export-sound-spec : {M : Type 1} → statement M

@@ -5,7 +5,7 @@ use lib.ListN.{length, length-replicate}
 use Rattle.meaning.specs.Contracts.{columnNow}
 use Rattle.meaning.specs.Column.{sequenceOf}
 use Rattle.bits.specs.Bitmap.{bitmapOf}
-use Rattle.exporting.specs.Export.{carries}
+use Rattle.exporting.specs.Export.{carriesRecord}
 use Rattle.exporting.proofs.Spans.{written}
 use borrow.Author.Needs.{needs}
 use Rattle.exporting.proofs.fill.Statement.{statement}
@@ -37,7 +37,7 @@ returns c =
     let cleared = held .before .before in
     let known = cleared .before .before in
     let s = known .before .before in
-    let p = carries (sequenceOf (columnNow (s .args .starts) (s .args .ends) (s .args .steps))) in
+    let p = carriesRecord (sequenceOf (columnNow (s .args .starts) (s .args .ends) (s .args .steps))) in
     written (s .args .bytes .now) p (cleared .clear .ensures) (marked .mark-runs .ensures) (λ j. c .slice-known3 .given j .fits) ∙ ap (bitmapOf p 0) (s .pre .1 .1 .1)
 
 pub fill-spec : {M : Type 1} → statement M

@@ -13,7 +13,7 @@ use Rattle.meaning.specs.Contracts.{columnNow}
 use Rattle.meaning.specs.Column.{Column, columnOf, startOf, stepOf, endBefore, sequenceOf}
 use Rattle.meaning.proofs.Runs.{before-zero, before-next}
 use Rattle.meaning.proofs.Soundness.{Sound, sound-parts}
-use Rattle.exporting.specs.Export.{carries}
+use Rattle.exporting.specs.Export.{carriesRecord}
 use Rattle.exporting.specs.Inner.{Marked, firstAt, moreOf, floorOf}
 use Rattle.exporting.proofs.Marks.{mark-as}
 use Rattle.exporting.proofs.Fitting.{fit-at, fit-key}
@@ -144,7 +144,7 @@ returns c =
     let a = c .before in
     let s = start a in
     let e : a .loop .r ≡ length (s .args .ends .now) = omega arith in
-    mark-as (carries (sequenceOf (col s))) (rw e at (a .loop .inv .2)) (carries-all (col s))
+    mark-as (carriesRecord (sequenceOf (col s))) (rw e at (a .loop .inv .2)) (carries-all (col s))
 
 pub mark-runs-spec : {M : Type 1} → statement M
 mark-runs-spec = tie.close (tie.spec Inv-loop μ-loop loop-holds mul-end shared-slice-read-end mul-bias shared-slice-copy-out-bias bias-requires sub-start mul-size16 shared-slice-copy-out-size16 size16-requires sub-set-run set-run-requires add-r loop-less loop-again same-length returns)

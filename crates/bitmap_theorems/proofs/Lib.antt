@@ -1,0 +1,4 @@
+pub mod Listed
+pub mod Trips
+pub mod Exact
+pub mod Unique
