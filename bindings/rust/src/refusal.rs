@@ -13,7 +13,7 @@ use core::{error, fmt};
 #[derive(Clone, Copy, Debug, PartialEq, Eq, Hash)]
 #[non_exhaustive]
 pub enum Refusal {
-    /// 1: array lengths differ, or over 4,096 runs; values to build from that need over 4,096 runs, or are over 4,294,967,295.
+    /// 1: array lengths differ, or over 4,096 runs; values to build from, or present records, that need over 4,096 runs; over 4,294,967,295 such values.
     Shape,
     /// 2: an end is not above the one before (the first: above 0), or is over 4,294,967,295.
     Ends,
@@ -25,7 +25,7 @@ pub enum Refusal {
     Window,
     /// 6: the scan's window end is above length, its index is outside its window, or it does not carry the element that it is at.
     Scan,
-    /// 7: seek, filter or listing over a window that doesn't rise.
+    /// 7: seek, filter or listing over a window that doesn't rise; the bitmap of a column that doesn't.
     Order,
     /// 8: over 16 bounds in a list, over 8 inputs; over 256 windows or window lists of unequal length.
     Bounds,
@@ -33,12 +33,22 @@ pub enum Refusal {
     Input,
     /// 10: an output has fewer places than the answer needs.
     Room,
-    /// 11: fewer than 4 bytes, or fewer than the length says.
+    /// 11: fewer than 4 bytes, or fewer than the length says; fewer bytes of a bitmap than its records need.
     Cut,
     /// 12: kind is not 1.
     Kind,
     /// 13: length under 2 or over 57,346, or length minus 2 no multiple of 14.
     Size,
+    /// 14: over 524,288 records of a bitmap.
+    Count,
+    /// 15: an element is no record number.
+    Range,
+    /// 16: a profile that is neither 1 nor 2. No call of this crate gives it yet.
+    Profile,
+    /// 17: a run of two or more elements with a negative step. No call of this crate gives it yet.
+    Falling,
+    /// 18: a sum over all windows that is out of range. No call of this crate gives it yet.
+    Total,
     /// 100: a number that is no state, kind or `found`, or two lists that belong together and differ in length. Only [`crate::raw`] can give it.
     Form,
     /// A number that this crate does not know.
@@ -47,20 +57,25 @@ pub enum Refusal {
 
 /// Each refusal with its number, name and condition.
 type Row = (Refusal, u32, &'static str, &'static str);
-const TABLE: [Row; 14] = [
-    (Refusal::Shape, 1, "SHAPE", "array lengths differ, or over 4,096 runs; values to build from that need over 4,096 runs, or are over 4,294,967,295"),
+const TABLE: [Row; 19] = [
+    (Refusal::Shape, 1, "SHAPE", "array lengths differ, or over 4,096 runs; values to build from, or present records, that need over 4,096 runs; over 4,294,967,295 such values"),
     (Refusal::Ends, 2, "ENDS", "an end is not above the one before (the first: above 0), or is over 4,294,967,295"),
     (Refusal::Reach, 3, "REACH", "a run's last element is outside i64"),
     (Refusal::Index, 4, "INDEX", "element asked at index ≥ length; place asked above length"),
     (Refusal::Window, 5, "WINDOW", "window end above length"),
     (Refusal::Scan, 6, "SCAN", "the scan's window end is above length, its index is outside its window, or it does not carry the element that it is at"),
-    (Refusal::Order, 7, "ORDER", "seek, filter or listing over a window that doesn't rise"),
+    (Refusal::Order, 7, "ORDER", "seek, filter or listing over a window that doesn't rise; the bitmap of a column that doesn't"),
     (Refusal::Bounds, 8, "BOUNDS", "over 16 bounds in a list, over 8 inputs; over 256 windows or window lists of unequal length"),
     (Refusal::Input, 9, "INPUT", "a variable bound names an input that isn't there or has no value"),
     (Refusal::Room, 10, "ROOM", "an output has fewer places than the answer needs"),
-    (Refusal::Cut, 11, "CUT", "fewer than 4 bytes, or fewer than the length says"),
+    (Refusal::Cut, 11, "CUT", "fewer than 4 bytes, or fewer than the length says; fewer bytes of a bitmap than its records need"),
     (Refusal::Kind, 12, "KIND", "kind is not 1"),
     (Refusal::Size, 13, "SIZE", "length under 2 or over 57,346, or length minus 2 no multiple of 14"),
+    (Refusal::Count, 14, "COUNT", "over 524,288 records of a bitmap"),
+    (Refusal::Range, 15, "RANGE", "an element is no record number"),
+    (Refusal::Profile, 16, "PROFILE", "a profile that is neither 1 nor 2"),
+    (Refusal::Falling, 17, "FALLING", "a run of two or more elements with a negative step"),
+    (Refusal::Total, 18, "TOTAL", "a sum over all windows that is out of range"),
     (Refusal::Form, 100, "FORM", "a number that is no state, kind or `found`, or two lists that belong together and differ in length"),
 ];
 

@@ -161,7 +161,7 @@ fn p12_reach() {
 
 #[test]
 fn every_refusal_has_its_number() {
-    for number in (1..=13).chain([100, 77]) {
+    for number in (1..=18).chain([100, 77]) {
         assert_eq!(Refusal::of(number).map(Refusal::number), Some(number));
     }
     assert_eq!(Refusal::of(77), Some(Refusal::Other(77)));

@@ -29,7 +29,7 @@ fn numbers_become_refusals_and_go_back() {
         let refusal = Refusal::try_from(number).unwrap();
         assert_eq!(Some(refusal), Refusal::of(number));
         assert_eq!(u32::from(refusal), number);
-        let known = (1..=13).contains(&number) || number == 100;
+        let known = (1..=18).contains(&number) || number == 100;
         assert_eq!(
             known,
             refusal
