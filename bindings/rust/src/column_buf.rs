@@ -66,15 +66,27 @@ impl ColumnBuf {
     ///
     /// [`Refusal::Cut`], [`Refusal::Size`], [`Refusal::Kind`], [`Refusal::Ends`], [`Refusal::Reach`], and then the column is as it was.
     pub fn read(&mut self, bytes: &[u8]) -> Result<usize, Refusal> {
+        let mut used = 0;
+        self.fill(most_runs(bytes), |starts, ends, steps| {
+            let read = raw::read_record(bytes, starts, ends, steps);
+            used = read.used;
+            (read.refusal, read.runs)
+        })?;
+        Ok(raw::places(used))
+    }
+
+    /// Becomes what a call writes into its lists, which have so many places at least; the call gives refusal and run count. A refusal leaves the column.
+    pub(crate) fn fill(
+        &mut self,
+        least: usize,
+        call: impl FnOnce(&mut [i64], &mut [u64], &mut [i16]) -> (u32, u64),
+    ) -> Result<(), Refusal> {
         let had = self.starts.len();
-        self.places(had.max(most_runs(bytes)));
-        let read = raw::read_record(bytes, &mut self.starts, &mut self.ends, &mut self.steps);
-        let (refusal, runs) = match Refusal::of(read.refusal) {
-            None => (None, raw::places(read.runs)),
-            refused => (refused, had),
-        };
-        self.places(runs);
-        refusal.map_or(Ok(raw::places(read.used)), Err)
+        self.places(had.max(least));
+        let (refusal, runs) = call(&mut self.starts, &mut self.ends, &mut self.steps);
+        let refusal = Refusal::of(refusal);
+        self.places(refusal.map_or(raw::places(runs), |_| had));
+        refusal.map_or(Ok(()), Err)
     }
 
     /// So many places in each list.

@@ -26,6 +26,8 @@ extern crate alloc;
 
 // `forbid` can't be taken back in a module: `unsafe` stands in `sys` and nowhere else. A module that is new falls under `deny` above.
 #[forbid(unsafe_code)]
+mod bitmap;
+#[forbid(unsafe_code)]
 mod bound;
 #[forbid(unsafe_code)]
 mod column;

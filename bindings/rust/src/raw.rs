@@ -15,10 +15,10 @@
 mod filter;
 
 pub use crate::sys::{
-    build, check, diff_step, filter_current, filter_new, filter_next, filter_next_run,
-    filter_reset, filter_seek, filter_seek_run, get, is_empty, len, list, place, read_record,
-    scan_current, scan_narrow, scan_new, scan_next, scan_next_run, scan_pos, scan_reset, scan_seek,
-    scan_seek_run, write_record,
+    build, check, diff_step, export, filter_current, filter_new, filter_next, filter_next_run,
+    filter_reset, filter_seek, filter_seek_run, get, import, is_empty, len, list, place,
+    read_record, scan_current, scan_narrow, scan_new, scan_next, scan_next_run, scan_pos,
+    scan_reset, scan_seek, scan_seek_run, write_record,
 };
 pub use filter::{Filter, FilterRan, Limit, NewFilter, Reset, Sifted, Variables};
 
@@ -28,6 +28,8 @@ pub const MAX_RUNS: usize = 4096;
 pub const MAX_ELEMENTS: u64 = 4_294_967_295;
 /// Bytes of the longest record, that of [`MAX_RUNS`] runs.
 pub const MAX_RECORD: usize = HEAD_BYTES + RUN_BYTES * MAX_RUNS;
+/// Records that a bitmap has at most; more are refused 14.
+pub const MAX_RECORDS: u64 = 524_288;
 /// Bounds that a list has at most; more are refused 8.
 pub const MAX_BOUNDS: usize = 16;
 /// Inputs that variable bounds are handed at most; more are refused 8.
@@ -241,4 +243,26 @@ pub struct Built {
     pub refusal: u32,
     /// The run count.
     pub runs: u64,
+}
+
+/// The run count, and the number of records that are present.
+#[repr(C)]
+#[derive(Clone, Copy, Debug, PartialEq, Eq, Hash)]
+pub struct Imported {
+    /// The refusal's number, or 0.
+    pub refusal: u32,
+    /// The run count.
+    pub runs: u64,
+    /// The number of ones, which is that of the elements.
+    pub ones: u64,
+}
+
+/// The number of bytes of a bitmap.
+#[repr(C)]
+#[derive(Clone, Copy, Debug, PartialEq, Eq, Hash)]
+pub struct Exported {
+    /// The refusal's number, or 0.
+    pub refusal: u32,
+    /// The number of bytes written.
+    pub bytes: u64,
 }

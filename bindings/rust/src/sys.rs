@@ -3,6 +3,7 @@
 //! Each exported function is proved to be total (it has no condition for its caller), to read only the places of the lists that it is lent, and to
 //! keep no pointer. What is left to show at each call is said there.
 
+mod bitmap;
 mod build;
 mod column;
 mod filter;
@@ -11,6 +12,7 @@ mod record;
 mod runs;
 mod scan;
 
+pub use bitmap::{export, import};
 pub use build::build;
 pub use column::{check, diff_step, get, is_empty, len, place};
 pub use filter::{filter_current, filter_new, filter_next, filter_reset, filter_seek};

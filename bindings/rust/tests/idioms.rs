@@ -212,6 +212,7 @@ fn traits() {
         raw::Reset,
     )>();
     value::<(raw::Listed, raw::ReadRecord, raw::Written, raw::Built)>();
+    value::<(raw::Imported, raw::Exported)>();
     default::<(
         Column<'_>,
         ColumnBuf,
