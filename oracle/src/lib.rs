@@ -42,6 +42,7 @@ include!(concat!(env!("OUT_DIR"), "/tree.rs"));
 
 pub use document::{calls, corpus, model};
 
+pub mod bitmaps;
 pub mod compare;
 pub mod exhaustive;
 pub mod lists;

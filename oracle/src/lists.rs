@@ -44,16 +44,18 @@ fn build(bench: &mut Bench, list: &[i64], tally: &mut Tally) {
         Said::Built(runs) => runs.starts.len(),
         _ => 4096,
     };
-    asked([n; 3]);
-    asked([n + 2, n, n + 1]);
-    if let Some(less) = n.checked_sub(1) {
-        for short in 0..3 {
-            let mut places = [n; 3];
-            places[short] = less;
-            asked(places);
-        }
-        asked([0; 3]);
+    for places in rooms(n) {
+        asked(places);
     }
+}
+
+/// Places of three arrays for so many runs: just right, longer, one short in each array, none.
+pub fn rooms(n: usize) -> Vec<[usize; 3]> {
+    let mut rooms = vec![[n; 3], [n + 2, n, n + 1]];
+    if n > 0 {
+        rooms.extend([[n - 1, n, n], [n, n - 1, n], [n, n, n - 1], [0; 3]]);
+    }
+    rooms
 }
 
 /// A list in which runs come and go: steps that stay, change and end, values again, and now and then one from anywhere.

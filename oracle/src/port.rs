@@ -226,6 +226,8 @@ impl Session {
                 if d.found == 1 { Said::Value(i64::from(d.step)) } else { Said::None }
             }
             Call::Build(values, places) => outputs::built(values, *places),
+            Call::Import(bytes, count, places) => outputs::imported(bytes, *count, *places),
+            Call::Export(count, places) => outputs::exported(runs, *count, *places),
             #[cfg(feature = "listing")]
             Call::List(l) => outputs::listed(runs, l, desk),
             #[cfg(feature = "record")]

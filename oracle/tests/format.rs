@@ -15,13 +15,13 @@ fn differences(text: &str) -> Vec<String> {
 }
 
 /// P1 to P12, document 02's places, the cases of request 4, scans that do not carry what they stand on, cuts and chained seeks, runs of
-/// calls on a scan and on a filter, runs built from lists, with every side that is there.
+/// calls on a scan and on a filter, runs built from lists, presence bitmaps, with every side that is there.
 #[test]
 fn examples_of_the_documents() {
     let cases = corpus::cases(EXAMPLES).expect("the examples");
-    assert_eq!(cases.len(), 52);
+    assert_eq!(cases.len(), 61);
     let lines: usize = cases.iter().map(|c| c.lines.len()).sum();
-    assert_eq!(lines, 298);
+    assert_eq!(lines, 338);
     assert_eq!(differences(EXAMPLES), Vec::<String>::new());
 }
 
@@ -77,6 +77,9 @@ fn every_call_reads_back() {
         Call::Diff(i64::MIN, i64::MAX),
         Call::Build(vec![], [0, 1, 2]),
         Call::Build(vec![i64::MAX, -1, -1], [usize::MAX; 3]),
+        Call::Import(vec![], 0, [0, 1, 2]),
+        Call::Import(vec![0xE5, 1], u64::MAX, [usize::MAX; 3]),
+        Call::Export(u64::MAX, 0),
     ] {
         assert_eq!(corpus::call(&call.to_string()), Ok(call.clone()), "{call}");
     }
@@ -90,6 +93,18 @@ fn short_forms() {
     assert_eq!((case.runs.starts, case.runs.ends), (vec![7, 7, 1, -2, -5], vec![1, 2, 3, 4, 5]));
     assert_eq!(case.lines[0].call, Call::List(Listing::default()));
     assert_eq!(corpus::call("fnew - i1"), corpus::call("fnew crate - i1"));
+}
+
+/// Bytes in theirs.
+#[test]
+fn short_forms_of_bytes() {
+    let imports = |bytes: &str| corpus::call(&format!("import {bytes} 8 1 1 1"));
+    let of = |bytes: &[u8]| Ok(Call::Import(bytes.to_vec(), 8, [1; 3]));
+    assert_eq!(imports("00*3+0A1B*2"), of(&[0, 0, 0, 10, 27, 10, 27]));
+    assert_eq!(imports("0A+1b*0+FF*1"), of(&[10, 255]));
+    for bad in ["0A+", "+0A", "*3", "0A*", "0A*-1", "0A*2*2", "A*2", "0A++0A", "-+0A", "+A", "0A*99999999999"] {
+        assert!(imports(bad).is_err(), "{bad}");
+    }
 }
 
 /// Each answer of the examples, changed, is noticed.
@@ -108,9 +123,11 @@ fn a_wrong_answer_is_noticed() {
             }
         }
         for wrong in wrong {
-            let mut text = lines.clone();
             let changed = format!("{words} -> {wrong}");
-            text[i] = &changed;
+            // The case that it stands in, by itself.
+            let from = lines[..i].iter().rposition(|l| l.starts_with("case ")).unwrap();
+            let to = i + lines[i..].iter().position(|l| *l == "end").unwrap();
+            let text = [&lines[from..i], &[changed.as_str()], &lines[i + 1..=to]].concat();
             assert!(!differences(&text.join("\n")).is_empty(), "{changed}");
         }
     }

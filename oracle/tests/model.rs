@@ -217,6 +217,45 @@ fn built_runs_are_the_list_and_least() {
     assert!(tried > 500, "{tried}");
 }
 
+/// Document 02, request 3: "Import after export gives the same elements and is never refused 1; export after an accepted import gives the same bits below the
+/// count"; the ones that are counted are the elements.
+#[test]
+fn bitmaps_go_there_and_back() {
+    let mut dice = oracle::random::Dice(4);
+    let (mut imported, mut exported) = (0, 0);
+    let import = |bytes: &[u8], count: u64| Session::new(&Column::new(&Runs::default())).call(&Call::Import(bytes.to_vec(), count, [4096; 3]));
+    let elements = |runs: &Runs| {
+        let column = Column::new(runs);
+        let length = column.check().unwrap();
+        (0..length).map(|i| column.at(i)).collect::<Vec<_>>()
+    };
+    for _ in 0..3000 {
+        let (bytes, count) = oracle::bitmaps::random(&mut dice);
+        if let Said::Imported { ones, runs } = import(&bytes, count) {
+            let Said::Written(back) = Session::new(&Column::new(&runs)).call(&Call::Export(count, bytes.len())) else { panic!("refused") };
+            let bit = |bytes: &[u8], i: u64| format!("{:08b}", bytes[i as usize / 8]).as_bytes()[7 - i as usize % 8];
+            assert!((0..count).all(|i| bit(&back, i) == bit(&bytes, i)));
+            assert!((count..8 * back.len() as u64).all(|i| bit(&back, i) == b'0'));
+            assert_eq!((0..count).filter(|&i| bit(&bytes, i) == b'1').count() as u64, ones);
+            assert_eq!(elements(&runs).len() as u64, ones);
+            imported += 1;
+        }
+        let (runs, counts) = {
+            let column = oracle::random::column(&mut dice, 40);
+            oracle::bitmaps::moved(&mut dice, &column)
+        };
+        for count in counts {
+            let said = Session::new(&Column::new(&runs)).call(&Call::Export(count, 65_536));
+            let Said::Written(bytes) = said else { continue };
+            let Said::Imported { ones, runs: again } = import(&bytes, count) else { panic!("refused") };
+            assert_eq!(elements(&again), elements(&runs));
+            assert!(ones == elements(&runs).len() as u64 && again.ends.len() <= runs.ends.len());
+            exported += 1;
+        }
+    }
+    assert!(imported > 2000 && exported > 2000, "{imported}, {exported}");
+}
+
 /// The order of refusals: an input that could be refused by several numbers is refused by the one that document 01 tries first.
 #[test]
 fn order_of_refusals() {

@@ -101,9 +101,13 @@ pub enum Call {
     Write(usize),
     /// The values, and the places of the three arrays.
     Build(Vec<i64>, [usize; 3]),
+    /// The bytes of a bitmap, the record count, and the places of the three arrays.
+    Import(Vec<u8>, u64, [usize; 3]),
+    /// The record count, and the bytes of the output.
+    Export(u64, usize),
 }
 
-/// What a call said. The five with arrays hold the answer's own places; the places beyond are looked at where the call is made (`Filled::whole`).
+/// What a call said. The six with arrays hold the answer's own places; the places beyond are looked at where the call is made (`Filled::whole`).
 #[derive(Clone, Debug, PartialEq, Eq)]
 pub enum Said {
     None,
@@ -118,6 +122,7 @@ pub enum Said {
     Read { used: u64, runs: Runs },
     Written(Vec<u8>),
     Built(Runs),
+    Imported { ones: u64, runs: Runs },
 }
 
 /// What the places of an output hold before a call.

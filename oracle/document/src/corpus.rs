@@ -132,6 +132,8 @@ impl Display for Call {
             Call::Read(b, p) => write!(f, "read {} {} {} {}", hex(b), p[0], p[1], p[2]),
             Call::Write(p) => write!(f, "write {p}"),
             Call::Build(v, p) => write!(f, "build {} {} {} {}", list(v), p[0], p[1], p[2]),
+            Call::Import(b, n, p) => write!(f, "import {} {n} {} {} {}", hex(b), p[0], p[1], p[2]),
+            Call::Export(n, p) => write!(f, "export {n} {p}"),
         }
     }
 }
@@ -157,6 +159,7 @@ impl Display for Said {
             Said::Listed { sum, counts, out } => write!(f, "sum {sum} counts {} out {}", list(counts), list(out)),
             Said::Read { used, runs } => write!(f, "runs {} used {used} {runs}", runs.starts.len()),
             Said::Built(runs) => write!(f, "runs {} {runs}", runs.starts.len()),
+            Said::Imported { ones, runs } => write!(f, "runs {} ones {ones} {runs}", runs.starts.len()),
             Said::Written(b) => write!(f, "bytes {} {}", b.len(), hex(b)),
         }
     }
@@ -173,7 +176,8 @@ pub fn has_state(call: &Call, said: &Said) -> bool {
     match call {
         Call::New => !matches!(said, Said::Refused(_)),
         Call::Check | Call::Place(_) | Call::Element(_) | Call::Diff(..) => false,
-        Call::Set(_) | Call::FilterSet(..) | Call::List(_) | Call::Read(..) | Call::Write(_) | Call::Build(..) => false,
+        Call::Set(_) | Call::FilterSet(..) | Call::List(_) | Call::Read(..) | Call::Write(_) => false,
+        Call::Build(..) | Call::Import(..) | Call::Export(..) => false,
         _ => true,
     }
 }
@@ -226,11 +230,20 @@ fn bound<V: FromStr>(word: &str) -> Parsed<Bound<V>> {
     Ok(Bound { value: number(&word[1..])?, exclusive })
 }
 
+/// Bytes with their short form: parts joined by `+`, and `XX*n` is n times XX, which may be several bytes.
 fn bytes(word: &str) -> Parsed<Vec<u8>> {
     if word == "-" {
         return Ok(Vec::new());
     }
-    if !word.is_ascii() || !word.len().is_multiple_of(2) {
+    let several = |part: &str| match part.split_once('*') {
+        Some((once, count)) => Ok(plain_bytes(once)?.repeat(number::<u32>(count)? as usize)),
+        None => plain_bytes(part),
+    };
+    Ok(word.split('+').map(several).collect::<Parsed<Vec<_>>>()?.concat())
+}
+
+fn plain_bytes(word: &str) -> Parsed<Vec<u8>> {
+    if word.is_empty() || !word.len().is_multiple_of(2) || !word.bytes().all(|b| b.is_ascii_hexdigit()) {
         return Err(format!("'{word}' is no row of bytes"));
     }
     (0..word.len() / 2).map(|i| u8::from_str_radix(&word[2 * i..2 * i + 2], 16).map_err(|e| e.to_string())).collect()
@@ -318,6 +331,8 @@ pub fn call(text: &str) -> Parsed<Call> {
         ["read", b, s, e, t] => Call::Read(bytes(b)?, [number(s)?, number(e)?, number(t)?]),
         ["write", p] => Call::Write(number(p)?),
         ["build", v, s, e, t] => Call::Build(numbers(v)?, [number(s)?, number(e)?, number(t)?]),
+        ["import", b, n, s, e, t] => Call::Import(bytes(b)?, number(n)?, [number(s)?, number(e)?, number(t)?]),
+        ["export", n, p] => Call::Export(number(n)?, number(p)?),
         _ => return Err(format!("'{text}' is no call")),
     })
 }
@@ -354,6 +369,7 @@ fn said(text: &str) -> Parsed<Said> {
         }
         ["runs", n, "used", used, "starts", s, "ends", e, "steps", t] => Said::Read { used: number(used)?, runs: runs(n, [s, e, t])? },
         ["runs", n, "starts", s, "ends", e, "steps", t] => Said::Built(runs(n, [s, e, t])?),
+        ["runs", n, "ones", ones, "starts", s, "ends", e, "steps", t] => Said::Imported { ones: number(ones)?, runs: runs(n, [s, e, t])? },
         ["bytes", n, b] => {
             let b = bytes(b)?;
             if b.len() != number::<usize>(n)? {
@@ -410,7 +426,7 @@ fn case(rest: &str) -> Parsed<Case> {
     let [n, kind, by] = rest.split(' ').collect::<Vec<_>>()[..] else {
         return Err(format!("'case {rest}' is not number, kind and by"));
     };
-    let kinds = ["scan", "filter", "mixed", "far", "column", "raw", "list", "read", "write", "build"];
+    let kinds = ["scan", "filter", "mixed", "far", "column", "raw", "list", "read", "write", "build", "import", "export"];
     // CORPUS2 has the request from which on the case holds in its place, and any word for the kind; the Rust does not play such a case.
     let from = by.parse::<u32>().is_ok();
     if !from && !kinds.contains(&kind) {

@@ -4,6 +4,8 @@
 use crate::calls::*;
 use std::cell::Cell;
 
+mod bitmap;
+
 pub const SHAPE: u32 = 1;
 pub const ENDS: u32 = 2;
 pub const REACH: u32 = 3;
@@ -17,6 +19,8 @@ pub const ROOM: u32 = 10;
 pub const CUT: u32 = 11;
 pub const KIND: u32 = 12;
 pub const SIZE: u32 = 13;
+pub const COUNT: u32 = 14;
+pub const RANGE: u32 = 15;
 
 const LONGEST: u64 = 4_294_967_295;
 const MOST_RUNS: usize = 4096;
@@ -285,7 +289,9 @@ impl<'a> Session<'a> {
             Call::List(listing) => list(self.column, listing)?,
             Call::Read(bytes, places) => read(bytes, *places)?,
             Call::Write(places) => write(self.column, *places)?,
-            Call::Build(values, places) => build(values, *places)?,
+            Call::Build(values, places) => Said::Built(build(values, *places)?),
+            Call::Import(bytes, count, places) => bitmap::import(bytes, *count, *places)?,
+            Call::Export(count, places) => bitmap::export(self.column, *count, *places)?,
         })
     }
 
@@ -518,7 +524,7 @@ fn write(column: &Column, places: usize) -> Outcome<Said> {
 /// Document 02, request 1: "a run starts with one value and step 0; its second value joins if the difference has a step, which becomes the run's; later values
 /// join while the difference equals it; otherwise a new run starts". Refused "1 where the rule needs over 4,096 runs or the list has over 4,294,967,295 values,
 /// then 10".
-fn build(values: &[i64], places: [usize; 3]) -> Outcome<Said> {
+fn build(values: &[i64], places: [usize; 3]) -> Outcome<Runs> {
     let mut runs: Vec<(i64, i16, u64)> = Vec::new();
     for (i, &value) in values.iter().enumerate() {
         let difference = i.checked_sub(1).and_then(|before| diff_step(values[before], value));
@@ -532,5 +538,5 @@ fn build(values: &[i64], places: [usize; 3]) -> Outcome<Said> {
     }
     refuse_if(runs.len() > MOST_RUNS || values.len() as u64 > LONGEST, SHAPE)?;
     refuse_if(places.iter().any(|&p| p < runs.len()), ROOM)?;
-    Ok(Said::Built(Runs::of(&runs)))
+    Ok(Runs::of(&runs))
 }

@@ -6,7 +6,7 @@
 use oracle::calls::*;
 use oracle::compare::{self, Bench, Tally, alone, by_hand, sequence};
 use oracle::random::{self, Dice};
-use oracle::{corpus, lists, model, rust};
+use oracle::{bitmaps, corpus, lists, model, rust};
 use std::io::Write;
 
 fn main() {
@@ -69,9 +69,13 @@ fn as_rattle(_: &str, _: u64, _: u64) {
 fn case(d: &mut Dice, number: u64, tally: &mut Tally) -> String {
     let most = if d.once_in(20) { 300 } else { 12 };
     let mut runs = random::column(d, most);
-    let kind = d.pick(&["scan", "scan", "filter", "filter", "mixed", "mixed", "column", "raw", "list", "read", "write", "build"]);
+    let kind = d.pick(&["scan", "scan", "filter", "filter", "mixed", "mixed", "column", "raw", "list", "read", "write", "build", "import", "export"]);
     if (["column", "write"].contains(&kind) && d.once_in(2)) || d.once_in(25) {
         random::damage(d, &mut runs);
+    }
+    let mut counts = Vec::new();
+    if kind == "export" {
+        (runs, counts) = bitmaps::moved(d, &runs);
     }
     let c = model::Column::new(&runs);
     let values = random::values(d, &c);
@@ -96,7 +100,7 @@ fn case(d: &mut Dice, number: u64, tally: &mut Tally) -> String {
             let text = format!("{} -> ok\n{} -> ok\n", Call::Set(scan), Call::FilterSet(wins, mode)) + &lines.collect::<String>();
             whole(number, kind, false, &runs, text)
         }
-        "list" | "write" | "read" | "build" => {
+        "list" | "write" | "read" | "build" | "import" | "export" => {
             let call = match kind {
                 "list" => {
                     let wins = d.pick(&[Wins::Inclusive, Wins::Exclusive]);
@@ -104,13 +108,18 @@ fn case(d: &mut Dice, number: u64, tally: &mut Tally) -> String {
                 }
                 "write" => Call::Write((6 + 14 * runs.ends.len()).saturating_add_signed(d.pick(&[0, 0, 1, 7, -1]))),
                 "read" => random::record(d, &c),
-                _ => random_build(d),
+                "build" => random_build(d),
+                "import" => random_import(d),
+                _ => {
+                    let count = d.pick(&counts);
+                    Call::Export(count, bitmaps::need(count).saturating_add_signed(d.pick(&[0, 0, 0, 2, -1])))
+                }
             };
             let before = tally.rust;
             let said = alone(&mut bench, &call, tally);
             let both = tally.rust > before;
             let none = Runs::default();
-            whole(number, kind, both, if ["read", "build"].contains(&kind) { &none } else { &runs }, format!("{call} -> {said}\n"))
+            whole(number, kind, both, if ["read", "build", "import"].contains(&kind) { &none } else { &runs }, format!("{call} -> {said}\n"))
         }
         _ => {
             let mut calls = random::calls_of(d, &c, &values, 25, kind);
@@ -128,10 +137,23 @@ fn case(d: &mut Dice, number: u64, tally: &mut Tally) -> String {
 /// A list to build from, into places that are right, longer or short.
 fn random_build(d: &mut Dice) -> Call {
     let list = lists::random(d);
-    let built = model::Session::new(&model::Column::new(&Runs::default())).call(&Call::Build(list.clone(), [list.len(); 3]));
-    let n = if let Said::Built(runs) = built { runs.starts.len() } else { 4096 };
-    let places = [(); 3].map(|()| n.saturating_add_signed(d.pick(&[0, 0, 0, 0, 1, 3, -1])));
-    Call::Build(list, places)
+    into_places(d, |places| Call::Build(list.clone(), places))
+}
+
+/// A bitmap to import, of few bytes, since they are printed.
+fn random_import(d: &mut Dice) -> Call {
+    let small = (0..).map(|_| bitmaps::random(d)).find(|(bytes, _)| bytes.len() < 200);
+    let (bytes, count) = small.expect("most are");
+    into_places(d, |places| Call::Import(bytes.clone(), count, places))
+}
+
+/// Such a call with places that are right, longer or short; how many it needs is asked of the model.
+fn into_places(d: &mut Dice, call: impl Fn([usize; 3]) -> Call) -> Call {
+    let n = match model::Session::new(&model::Column::new(&Runs::default())).call(&call([4096; 3])) {
+        Said::Built(runs) | Said::Imported { runs, .. } => runs.starts.len(),
+        _ => 4096,
+    };
+    call([(); 3].map(|()| n.saturating_add_signed(d.pick(&[0, 0, 0, 0, 1, 3, -1]))))
 }
 
 /// A column call, or making a scan.

@@ -2,7 +2,7 @@
 use oracle::calls::Runs;
 use oracle::compare::{Tally, quiet_panics};
 use oracle::random::Dice;
-use oracle::{exhaustive, lists, port, random, rust};
+use oracle::{bitmaps, exhaustive, lists, port, random, rust};
 use std::time::{Duration, Instant};
 
 fn main() {
@@ -31,6 +31,8 @@ fn main() {
     let levels = if long { exhaustive::LONG } else { exhaustive::QUICK };
     lists::everything(if long { 6 } else { 5 }, &mut tally);
     say("with lists to build from", &tally, begun);
+    bitmaps::everything(if long { 13 } else { 499 }, &mut tally);
+    say("with bitmaps", &tally, begun);
     everything(&mut tally, levels, if long { 3 } else { 29 }, begun);
     randomly(&mut tally, seconds.saturating_sub(begun.elapsed()).max(Duration::from_secs(5)), seed.wrapping_add(1), begun);
     say("with random", &tally, begun);

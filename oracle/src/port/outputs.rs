@@ -57,6 +57,20 @@ pub(super) fn built(values: &[i64], places: [usize; 3]) -> Said {
     filled(places, call).map_or_else(Said::Refused, Said::Built)
 }
 
+pub(super) fn imported(bytes: &[u8], count: u64, places: [usize; 3]) -> Said {
+    let mut ones = 0;
+    let call = |starts: &mut [i64], ends: &mut [u64], steps: &mut [i16]| {
+        let answer = raw::import(bytes, count, starts, ends, steps);
+        assert!(answer.refusal == 0 || answer.ones == 0, "ones and a refusal");
+        ones = answer.ones;
+        (answer.refusal, answer.runs)
+    };
+    match filled(places, call) {
+        Ok(runs) => Said::Imported { ones, runs },
+        Err(refusal) => Said::Refused(refusal),
+    }
+}
+
 /// The runs that a call, which gives refusal and run count, writes into three arrays.
 fn filled(places: [usize; 3], call: impl FnOnce(&mut [i64], &mut [u64], &mut [i16]) -> (u32, u64)) -> Result<Runs, u32> {
     let mut starts = vec![i64::from(PLACE); places[0]];
@@ -76,11 +90,28 @@ fn filled(places: [usize; 3], call: impl FnOnce(&mut [i64], &mut [u64], &mut [i1
 
 #[cfg(feature = "record")]
 pub(super) fn written(runs: &Runs, places: usize) -> Said {
+    as_bytes(places, |out| {
+        let answer = raw::write_record(&runs.starts, &runs.ends, &runs.steps, out);
+        (answer.refusal, answer.bytes)
+    })
+}
+
+pub(super) fn exported(runs: &Runs, count: u64, places: usize) -> Said {
+    as_bytes(places, |out| {
+        let answer = raw::export(&runs.starts, &runs.ends, &runs.steps, count, out);
+        (answer.refusal, answer.bytes)
+    })
+}
+
+/// The bytes that a call, which gives refusal and their number, writes.
+fn as_bytes(places: usize, call: impl FnOnce(&mut [u8]) -> (u32, u64)) -> Said {
     let mut out = vec![BYTE; places];
-    let answer = raw::write_record(&runs.starts, &runs.ends, &runs.steps, &mut out);
-    let n = if answer.refusal == 0 { answer.bytes as usize } else { 0 };
+    let (refusal, bytes) = call(&mut out);
+    let n = if refusal == 0 { bytes as usize } else { 0 };
+    assert!(refusal == 0 || bytes == 0, "bytes and a refusal");
     untouched(&out[n..], BYTE);
-    if answer.refusal == 0 { Said::Written(out[..n].to_vec()) } else { Said::Refused(answer.refusal) }
+    out.truncate(n);
+    if refusal == 0 { Said::Written(out) } else { Said::Refused(refusal) }
 }
 
 fn untouched<T: PartialEq + std::fmt::Debug>(places: &[T], held: T) {
