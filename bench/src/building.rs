@@ -17,7 +17,7 @@ fn rust(values: &[i64], to: &mut Runs) -> Result<usize, u32> {
     plain::build(values, &mut to.starts, &mut to.ends, &mut to.steps)
 }
 
-fn places(count: usize) -> Runs {
+pub fn places(count: usize) -> Runs {
     Runs { starts: vec![7; count], ends: vec![7; count], steps: vec![7; count] }
 }
 
@@ -87,7 +87,7 @@ fn pushed(values: impl Iterator<Item = i64>) -> Runs {
 }
 
 /// Numbers that can't be foreseen, the same in every run.
-fn random(count: usize, one: impl Fn(u64) -> i64) -> Vec<i64> {
+pub fn random(count: usize, one: impl Fn(u64) -> i64) -> Vec<i64> {
     let mut word = 0x9E37_79B9_7F4A_7C15_u64;
     let mut next = || {
         word ^= word << 13;

@@ -24,6 +24,8 @@ pub(crate) mod management {
 #[cfg(rust_text)]
 include!(concat!(env!("OUT_DIR"), "/tree.rs"));
 
+mod bitmaps;
+mod bits;
 mod building;
 mod calls;
 mod checks;
@@ -61,6 +63,7 @@ fn main() {
     sifting::measure(&mut clock);
     record::measure(&mut clock);
     building::measure(&mut clock);
+    bitmaps::measure(&mut clock);
     let table = page::table(&clock);
     println!("{table}");
     if !clock.only.is_empty() {
