@@ -10,7 +10,7 @@ use Rattle.meaning.specs.declared.Refusal.{Refusal}
 use Rattle.meaning.specs.declared.Refusal.the-variants.{Order, Room}
 use Rattle.meaning.specs.Refusals.{Word, fine, Said, Gives, Number, also, judged}
 use Rattle.meaning.specs.Sequence.{Sequence, Source, onSource, carries, rises}
-use Rattle.loftsplice.specs.Scan.{fresh, seekOf, posOf}
+use Rattle.loftsplice.specs.Scan.{fresh, indexIn, seekOf}
 
 -- a number's flag: 1 if it is carried, 0 if it is filled
 abbrev pub flagOf : Sequence → ℤ → ℕ
@@ -26,6 +26,6 @@ onNumbers p ks places = also Room (ltb places (length ks)) (also Order (not (ris
 unfoldable pub carriedOf : Source → List ℤ → ℕ → Said Word
 carriedOf p ks places = judged Number (onNumbers p ks places) (Gives fine)
 
--- where a seek of k by a new scan stands, as `pos` says it: at the index of k, if it is carried
-abbrev pub soughtAt : Source → ℤ → Said (Option ℕ)
-soughtAt p k = posOf p (seekOf p k (fresh 0 (p .sequence .size)) .scan)
+-- the index at which a seek of k by a new scan stands: that of k, if it is carried
+abbrev pub soughtAt : Source → ℤ → Option ℕ
+soughtAt p k = indexIn (seekOf p k (fresh 0 (p .sequence .size)) .scan .state)

@@ -4,6 +4,7 @@ ghost use mathlib.Core.Path.{_≡_};
 ghost use mathlib.Core.Bool.{true};
 ghost use Prim.Native.Nat.{_≤_, _<_};
 ghost use lib.ListN.{length};
+ghost use Rattle.meaning.specs.Refusals.{Gives};
 ghost use Rattle.meaning.specs.Column.{endBefore};
 ghost use Rattle.meaning.specs.Contracts.{Leaves, sequence, source};
 ghost use Rattle.checked.specs.Says.{saysChecked};
@@ -166,12 +167,17 @@ pub fn carried(
     carried_all(starts, ends, steps, numbers, flags)
 }
 
-// The index at which a seek of a number by a new scan stands: that of the number, if it is carried. Refused 1, 2, 3.
+// The index at which a seek of a number by a new scan stands: that of the number, if it is carried. None where the seek answers none or is refused.
 pub fn index(starts: &[i64], ends: &[u64], steps: &[i16], number: i64) -> Position
-    ensures { λ r. ⌜ saysPosition r ≡ soughtAt (source starts ends steps) number ⌝ }
+    ensures { λ r. ⌜ saysPosition r ≡ Gives (soughtAt (source starts ends steps) number) ⌝ }
 {
     let scan = whole(ends);
     let moved = scan.seek(starts, ends, steps, number);
     let at = moved.scan;
-    at.pos(starts, ends, steps)
+    let state = at.state;
+    match state {
+        State::At(index) => Position::Index(index),
+        State::Fresh => Position::None,
+        State::Ended => Position::None,
+    }
 }
