@@ -1,7 +1,7 @@
 //! Presence bitmaps, imported and exported, against a plain Rust of the same work.
 use crate::bits;
 use crate::building::{places, random};
-use crate::clock::{Against, Clock, work};
+use crate::clock::{Against, Clock, Work, work};
 use crate::columns::Runs;
 use crate::page::grouped;
 use loftsplice::raw;
@@ -54,54 +54,73 @@ fn cut(runs: &Runs, count: usize) -> Runs {
     Runs { starts: runs.starts[..count].into(), ends: runs.ends[..count].into(), steps: runs.steps[..count].into() }
 }
 
-fn race(clock: &mut Clock, bytes: &[u8], word: &str) {
-    alike(&bytes[..40]);
-    let count = 8 * bytes.len() as u64;
+/// An operation on each of some, one after the other, as work.
+fn each<'a, T, R>(all: &'a [T], mut operation: impl FnMut(&T) -> R + 'a) -> Work<'a> {
+    work(move || {
+        for one in black_box(all) {
+            black_box(operation(one));
+        }
+    })
+}
+
+/// Bitmaps of one kind, one after the other: several where chance made them, since of one that is read again and again the processor learns each turn.
+fn race(clock: &mut Clock, bitmaps: &[Vec<u8>], word: &str) {
+    alike(&bitmaps[0][..40]);
+    let count = 8 * bitmaps[0].len() as u64;
+    let bytes = ("byte", bitmaps.iter().map(|bytes| bytes.len() as u64).sum());
     let mut to = [places(4096), places(4096)];
     let [ours, theirs] = &mut to;
-    let imported = port_import(bytes, count, ours);
-    assert_eq!(rust_import(bytes, count, theirs), imported);
-    assert_eq!(ours, theirs);
-    let came = match imported {
-        Ok((1, _)) => "1 run".into(),
-        Ok((runs, _)) => format!("{} runs", grouped(runs as u64)),
-        Err(refusal) => format!("refused {refusal}"),
-    };
+    let mut columns = Vec::new();
+    let mut came = String::new();
+    for bytes in bitmaps {
+        let imported = port_import(bytes, count, ours);
+        assert_eq!(rust_import(bytes, count, theirs), imported);
+        assert_eq!(ours, theirs);
+        came = match imported {
+            Ok((1, _)) => "1 run".into(),
+            Ok((runs, _)) => format!("{} runs", grouped(runs as u64)),
+            Err(refusal) => format!("refused {refusal}"),
+        };
+        columns.extend(imported.ok().map(|(runs, _)| cut(ours, runs)));
+    }
     let size = format!("{} records, {word}: {came}", grouped(count));
-    let column = imported.ok().map(|(runs, _)| cut(ours, runs));
     clock.race(
         "bitmap import",
         size.clone(),
-        ("byte", bytes.len() as u64),
-        work(|| port_import(black_box(bytes), count, black_box(ours))),
-        vec![(PLAIN, work(|| rust_import(black_box(bytes), count, black_box(theirs))))],
+        bytes,
+        each(bitmaps, |bytes| port_import(bytes, count, black_box(ours))),
+        vec![(PLAIN, each(bitmaps, |bytes| rust_import(bytes, count, black_box(theirs))))],
     );
-    let Some(column) = column else { return };
-    let mut outs = [vec![0; bytes.len()], vec![0; bytes.len()]];
+    if columns.is_empty() {
+        return;
+    }
+    let mut outs = [vec![0; bitmaps[0].len()], vec![0; bitmaps[0].len()]];
     let [ours, theirs] = &mut outs;
-    assert_eq!((port_export(&column, count, ours), rust_export(&column, count, theirs)), (Ok(bytes.len()), Ok(bytes.len())));
-    assert!(ours == bytes && theirs == bytes, "the same bitmap");
+    for (bytes, column) in bitmaps.iter().zip(&columns) {
+        assert_eq!((port_export(column, count, ours), rust_export(column, count, theirs)), (Ok(bytes.len()), Ok(bytes.len())));
+        assert!(ours == bytes && theirs == bytes, "the same bitmap");
+    }
     clock.race(
         "bitmap export",
         size,
-        ("byte", bytes.len() as u64),
-        work(|| port_export(black_box(&column), count, black_box(ours))),
-        vec![(PLAIN, work(|| rust_export(black_box(&column), count, black_box(theirs))))],
+        bytes,
+        each(&columns, |column| port_export(column, count, black_box(ours))),
+        vec![(PLAIN, each(&columns, |column| rust_export(column, count, black_box(theirs))))],
     );
 }
 
-/// A bitmap in which each record is present by chance, so many of a hundred.
-fn by_chance(records: u64, of_hundred: i64) -> Vec<u8> {
-    let chances = random(records as usize, |word| (word >> 8) as i64 % 100);
-    chances.chunks(8).map(|eight| eight.iter().rev().fold(0, |byte, &chance| 2 * byte + u8::from(chance < of_hundred))).collect()
+/// So many bitmaps in which each record is present by chance, so many of a hundred.
+fn by_chance(bitmaps: usize, records: u64, of_hundred: i64) -> Vec<Vec<u8>> {
+    let chances = random(bitmaps * records as usize, |word| (word >> 8) as i64 % 100);
+    let byte = |eight: &[i64]| eight.iter().rev().fold(0, |byte, &chance| 2 * byte + u8::from(chance < of_hundred));
+    chances.chunks(records as usize).map(|one| one.chunks(8).map(byte).collect()).collect()
 }
 
 pub fn measure(clock: &mut Clock) {
-    let bytes = RECORDS as usize / 8;
-    race(clock, &vec![0; bytes], "empty");
-    race(clock, &vec![0xFF; bytes], "full");
-    race(clock, &vec![0x55; bytes], "alternating");
-    race(clock, &by_chance(RECORDS, 1), "1 % by chance");
-    race(clock, &by_chance(16_384, 50), "50 % by chance");
-    race(clock, &by_chance(RECORDS, 50), "50 % by chance");
+    for (byte, word) in [(0, "empty"), (0xFF, "full"), (0x55, "alternating")] {
+        race(clock, &[vec![byte; RECORDS as usize / 8]], word);
+    }
+    race(clock, &by_chance(8, RECORDS, 1), "1 % by chance");
+    race(clock, &by_chance(32, 16_384, 50), "50 % by chance");
+    race(clock, &by_chance(8, RECORDS, 50), "50 % by chance");
 }
