@@ -21,8 +21,8 @@ pub fn import(bytes: &[u8], count: u64, places: [usize; 3]) -> Outcome<Said> {
     Ok(Said::Imported { ones: records.len() as u64, runs })
 }
 
-/// "writes the bitmap of a rising column, with zeros past the count in its last byte, and answers the bytes written". Refused 14, "on export then 1, 2, 3, 7 for
-/// a column that doesn't rise, 15 RANGE for an element that is no record number, 10".
+/// "writes the bitmap of a rising column, with zeros past the count in its last byte, and answers the bytes written". Refused 14, "on export then 1, 2, 3, 7
+/// for a column that doesn't rise, 15 RANGE for an element that is no record number, 10".
 pub fn export(column: &Column, count: u64, places: usize) -> Outcome<Said> {
     refuse_if(count > MOST_RECORDS, COUNT)?;
     let length = column.check?;
