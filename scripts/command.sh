@@ -26,22 +26,27 @@ loftsplice find FILE --numbers NUMBERS [--filled | --count]
     for each number K a line: 'K carried at index I', or 'K filled'; the numbers are
     the words K, or the lines of the file NUMBERS;
     with --filled only the lines of those that are filled, with --count the two sums
+loftsplice build NUMBERS
+    the record of the column that is built from the lines of the file NUMBERS, at most
+    524,288, each a number, in runs as long as they get: to standard output
 loftsplice help | --help | -h
 loftsplice --version
 
 FILE holds one column as a stored record, and nothing else. For FILE or NUMBERS - is
 standard input. Options stand anywhere before a word --, their values after a space or
-after =. All three take --format csv or --format json.
+after =. check, list and find take --format csv or --format json.
 
 Answers go to standard output, messages to standard error. The last line there, and the
 exit status:
     refused N NAME        N, for example 'refused 2 ENDS': the input is refused, and why;
+                          1 SHAPE: build would need over 4,096 runs;
                           5 WINDOW: END is above the length; 7 ORDER: list, find and
                           check --rising take elements that rise; 2, 3, 11, 12, 13: the
                           record is damaged
     usage                 64: a word is not as above; which is said
     N of M bytes used     65: the file has bytes after its record, and is not answered
     no number             65: a line of NUMBERS is none; which is said
+    too many numbers      65: build holds no more than 524,288
     no file               66: a file can't be opened or read
     not written           74: standard output takes no more
 70: the program is not there and could not be built.
@@ -72,7 +77,7 @@ run() {
   case $last in
     'refused '*) last=${last#refused }; exit "${last%% *}" ;;
     usage) exit 64 ;;
-    *' bytes used' | 'no number') exit 65 ;;
+    *' bytes used' | 'no number' | 'too many numbers') exit 65 ;;
     'no file') exit 66 ;;
     'not written') exit 74 ;;
   esac

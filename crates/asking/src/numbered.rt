@@ -41,7 +41,8 @@ pub fn from_arguments(
     true
 }
 
-fn show_line(line: &[u8; 64], held: usize, i: u64) {
+// The last lines where line i is no number.
+pub fn show_line(line: &[u8; 64], held: usize, i: u64) {
     let view: &[u8] = line;
     if held < 64 {
         wrong::line(i, &view[..held]);

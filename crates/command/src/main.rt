@@ -1,4 +1,4 @@
-// The command loftsplice: checks, lists and searches a column that is stored as a record; docs/COMMAND.md says how it is called and what it writes.
+// The command loftsplice: checks, lists, searches and builds a column that is stored as a record; docs/COMMAND.md says how it is called and what it writes.
 // A Rattle program has no exit status. What went wrong is the last line on standard error, of which the wrapper ./loftsplice makes one.
 use telling::wrong;
 use words::arguments;
@@ -15,6 +15,10 @@ fn main() {
     let command = arguments::given(&mut places);
     if let Command::Wrong = command {
         wrong::usage(places[WRONG], places[WANTED]);
+        return;
+    }
+    if let Command::Build = command {
+        building::build(&places);
         return;
     }
     reading::from_file(command, &places);

@@ -113,6 +113,7 @@ fn from_column(
         }
         Command::List => listing::list_window(starts, ends, steps, places),
         Command::Find => finding::find(starts, ends, steps, places),
+        Command::Build => {}
         Command::Wrong => {}
     }
 }

@@ -209,6 +209,9 @@ fn named(word: &[u8]) -> Command {
     if check::same(word, b"find") {
         return Command::Find;
     }
+    if check::same(word, b"build") {
+        return Command::Build;
+    }
     Command::Wrong
 }
 

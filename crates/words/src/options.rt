@@ -20,6 +20,7 @@ pub enum Command {
     Check,
     List,
     Find,
+    Build,
     Wrong,
 }
 
@@ -85,24 +86,39 @@ fn finding_option(name: &[u8]) -> usize
     0
 }
 
-// The option of this name, by its place; 0 where the command has none.
+fn checking_option(name: &[u8]) -> usize
+    ensures { λ r. ⌜ r < 12 ⌝ }
+{
+    if check::same(name, b"--rising") {
+        return RISING;
+    }
+    0
+}
+
+// The option of this name that a command has by itself.
+fn own_option(command: Command, name: &[u8]) -> usize
+    ensures { λ r. ⌜ r < 12 ⌝ }
+{
+    match command {
+        Command::Check => checking_option(name),
+        Command::List => listing_option(name),
+        Command::Find => finding_option(name),
+        Command::Build => 0,
+        Command::Wrong => 0,
+    }
+}
+
+// The option of this name, by its place; 0 where the command has none. A record has one format.
 pub fn option_of(command: Command, name: &[u8]) -> usize
     ensures { λ r. ⌜ r < 12 ⌝ }
 {
+    if let Command::Build = command {
+        return 0;
+    }
     if check::same(name, b"--format") {
         return FORMAT;
     }
-    match command {
-        Command::Check => {
-            if check::same(name, b"--rising") {
-                return RISING;
-            }
-            0
-        }
-        Command::List => listing_option(name),
-        Command::Find => finding_option(name),
-        Command::Wrong => 0,
-    }
+    own_option(command, name)
 }
 
 pub fn is_number(word: &[u8]) -> bool {

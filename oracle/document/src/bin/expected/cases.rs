@@ -1,5 +1,5 @@
 //! The cases of scripts/command-test: the files, the calls that the model answers, and those that are wrong.
-use crate::command::{answer, Answer};
+use crate::command::{answer, built, Stored, MOST};
 use crate::samples::{bark, damaged, record, written};
 use crate::{d, put};
 use document::calls::Runs;
@@ -9,9 +9,15 @@ use std::path::Path;
 const CALLS: &str = include_str!("command.calls");
 
 /// Calls with a wrong word, or one too few: the words, and which of them is wrong (from 1 on; one more than there are: it is missing).
-const USAGE: [(&str, usize); 55] = [
+const USAGE: [(&str, usize); 61] = [
     ("", 1),
     ("check", 2),
+    ("build", 2),
+    ("build few few", 3),
+    ("build few 3", 3),
+    ("build few --format csv", 3),
+    ("build few --count", 3),
+    ("build --numbers few", 2),
     ("list", 2),
     ("find", 2),
     ("find bark", 3),
@@ -68,7 +74,7 @@ const USAGE: [(&str, usize); 55] = [
 ];
 
 /// A case: the words, what is on standard input, the answer, and words that standard error has to have.
-type Case = (Vec<String>, Vec<u8>, Answer, String);
+type Case = (Vec<String>, Vec<u8>, Stored, String);
 
 /// The records that the calls name.
 fn files() -> Vec<(&'static str, Vec<u8>)> {
@@ -117,6 +123,12 @@ fn files() -> Vec<(&'static str, Vec<u8>)> {
         // every order of neighbours: up, down, the same
         ("shuffled", (0..1500).map(|k| format!("{}\n", (k * 7919 % 1511 - 300) / 2 * 7)).collect::<String>().into_bytes()),
         ("downward", (0..600).rev().map(|k| format!("{k}\n")).collect::<String>().into_bytes()),
+        ("edges", format!("{}\n{}\n{}\n-32768\n0\n32767\n65535\n32767\n-1\n", i64::MIN, i64::MAX, i64::MIN).into_bytes()),
+        ("singles", (0..4096).map(|k| format!("{}\n", k * 40_000)).collect::<String>().into_bytes()),
+        ("single", (0..4097).map(|k| format!("{}\n", k * 40_000)).collect::<String>().into_bytes()),
+        ("pairs", (0..8192).map(|k| format!("{}\n", k / 2 * 40_000 + k % 2)).collect::<String>().into_bytes()),
+        ("held", b"7\n".repeat(MOST)),
+        ("beyond", [&b"7\n".repeat(MOST)[..], b"7"].concat()),
         ("late", (0..2000).map(|k| format!("{k}\n")).chain(["x\n".into()]).collect::<String>().into_bytes()),
     ]
 }
@@ -133,15 +145,20 @@ pub fn cases(folder: &Path) {
         let (line, input) = line.split_once(" < ").map_or((line, vec![]), |(line, name)| (line, held(name)));
         let words = split(line);
         let read = |name: &str| if name == "-" { input.clone() } else { held(name) };
-        let (answer, said) = answer(&words, &read);
+        let (answer, said) = if words[0] == "build" {
+            built(&read(&words[words.len() - 1]))
+        } else {
+            let ((out, last, status), said) = answer(&words, &read);
+            ((out.into_bytes(), last, status), said)
+        };
         rows.push((words, input, answer, said));
     }
     for (line, wrong) in USAGE {
         let words = split(line);
         let said = words.get(wrong - 1).map_or("a word is missing at the end".into(), |word| format!("word {wrong}, '{word}', is n"));
-        rows.push((words, vec![], (String::new(), "usage".into(), 64), said));
+        rows.push((words, vec![], (vec![], "usage".into(), 64), said));
     }
-    rows.extend(without_file().map(|words| (words, vec![], (String::new(), "no file".into(), 66), String::new())));
+    rows.extend(without_file().map(|words| (words, vec![], (vec![], "no file".into(), 66), String::new())));
     for (i, (words, input, (out, last, status), said)) in rows.iter().enumerate() {
         let case = folder.join(format!("case{i:03}"));
         std::fs::create_dir(&case).unwrap_or_else(|e| panic!("{}: {e}", case.display()));
@@ -156,11 +173,12 @@ pub fn cases(folder: &Path) {
 }
 
 /// Files that are not there, a folder, no name, and names that are too long.
-fn without_file() -> [Vec<String>; 9] {
+fn without_file() -> [Vec<String>; 11] {
     let check = |name: &str| vec!["check".to_string(), name.to_string()];
     let find = ["find", "nofile", "3"].map(String::from).to_vec();
     let list = ["list", "nofile"].map(String::from).to_vec();
     let numbers = ["find", "bark", "--numbers", "nofile", "--format=csv"].map(String::from).to_vec();
     let folder = ["find", "bark", "--numbers=."].map(String::from).to_vec();
-    [numbers, folder, check("nofile"), list, find, check("."), check(""), check(&"x".repeat(300)), check(&"x".repeat(5000))]
+    let build = |name: &str| vec!["build".to_string(), name.to_string()];
+    [build("nofile"), build("."), numbers, folder, check("nofile"), list, find, check("."), check(""), check(&"x".repeat(300)), check(&"x".repeat(5000))]
 }

@@ -1,5 +1,5 @@
 //! What `./loftsplice` must answer, by the model: for the cases of scripts/command-test, and the stored output of crates/command.
-use crate::samples::bark;
+use crate::samples::{bark, written};
 use crate::{ask, root};
 use document::calls::{Bound, Call, Listing, Runs, Said};
 use document::model::{Column, Session};
@@ -10,6 +10,12 @@ const NAMES: [&str; 13] = [
 
 /// Standard output, the last line on standard error, the exit status.
 pub type Answer = (String, String, u32);
+
+/// The same where standard output is a record.
+pub type Stored = (Vec<u8>, String, u32);
+
+/// How many numbers `build` holds.
+pub const MOST: usize = 524_288;
 
 /// crates/command/stdout, by the words of crates/command/args.
 pub fn stdout() -> String {
@@ -211,4 +217,34 @@ fn row(k: i64, index: Option<u64>, format: Format, filled: bool) -> Option<Strin
         (None, Format::Csv) => Some(format!("{k},filled,")),
         (None, Format::Json) => Some(format!("{{\"number\":{k},\"answer\":\"filled\"}}")),
     }
+}
+
+/// `build FILE`: the record of the column that is built from the numbers, by document 02's rule, and words that standard error has to have.
+pub fn built(text: &[u8]) -> (Stored, String) {
+    let (values, wrong) = numbers(text);
+    if values.len() > MOST {
+        return ((vec![], "too many numbers".into(), 65), "over 524,288 numbers".into());
+    }
+    if let Some((line, text)) = wrong {
+        return ((vec![], "no number".into(), 65), format!("line {line}, '{text}', is no number"));
+    }
+    let runs = ruled(&values);
+    if runs.len() > 4096 {
+        return ((vec![], "refused 1 SHAPE".into(), 1), "over 4,096 runs".into());
+    }
+    ((written(&Runs::of(&runs)), String::new(), 0), String::new())
+}
+
+/// "A run starts with one value and step 0; its second value joins if the difference has a step, which becomes the run's; later values join while the
+/// difference equals it; otherwise a new run starts."
+fn ruled(values: &[i64]) -> Vec<(i64, i16, u64)> {
+    let mut runs: Vec<(i64, i16, u64)> = vec![];
+    for (i, value) in values.iter().enumerate() {
+        let step = i.checked_sub(1).and_then(|j| i16::try_from(i128::from(*value) - i128::from(values[j])).ok());
+        match (runs.last_mut(), step) {
+            (Some(run), Some(step)) if run.2 == 1 || run.1 == step => *run = (run.0, step, run.2 + 1),
+            _ => runs.push((*value, 0, 1)),
+        }
+    }
+    runs
 }
