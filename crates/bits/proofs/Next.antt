@@ -2,16 +2,19 @@
 use Prim.Native.Nat.{ℕ, _+_, _-_, _*_, _/_, _%_, _^_, _≤_, _<_, min}
 use mathlib.Core.Path.{_≡_, sym, ap, _∙_}
 use mathlib.Core.Logic.{⊎-elim}
+use mathlib.Core.List.{List}
 use mathlib.Core.Bool.{Bool, false}
 use native.Mathlib.Omega.{arith}
-use lib.Pow.{shr-le}
+use native.Mathlib.Nat.{div-eq-of-lt, lt-of-lt-of-le}
+use lib.Pow.{shr-le, shr-shr, pow-mono}
 use lib.Bits.{bitAnd, and-mask}
 use lib.Count.{trailingZeros}
 use Rattle.ranges.specs.Ranges.{firstFrom}
 use Rattle.ranges.proofs.Spans.{first-unique, lt-or-ge}
 use Rattle.bits.specs.Bitmap.{digit, isSet}
 use Rattle.bits.proofs.Digits.{digit-past, digit-shift, trailing-off, trailing-on, trailing-some, set-on, set-off}
-use Rattle.bits.proofs.Words.{Shows}
+use Rattle.bits.specs.Word.{byteAt, soughtAt, sought, windowAt}
+use Rattle.bits.proofs.Words.{Shows, sought-shows, sought-lt}
 
 -- nothing from a on, below b
 abbrev pub Nowhere : (ℕ → Bool) → ℕ → ℕ → Type 0
@@ -47,7 +50,7 @@ module _ (p : ℕ → Bool) (base w x k rest : ℕ) (shows : Shows p base w x) (
     at-zeros : digit x (k + trailingZeros w rest) ≡ 1
     at-zeros = digit-rest (trailingZeros w rest) ∙ trailing-on w rest (trailing-some w rest some rest-lt)
 
-    zeros-in : k + trailingZeros w rest < w
+    pub zeros-in : k + trailingZeros w rest < w
     zeros-in = ⊎-elim (λ (u : k + trailingZeros w rest < w). u)
         (λ (u : w ≤ k + trailingZeros w rest). absurd (omega (arith, at-zeros, digit-past x w (k + trailingZeros w rest) fits u)))
         (lt-or-ge (k + trailingZeros w rest) w)
@@ -99,3 +102,27 @@ module _ (p : ℕ → Bool) (j x : ℕ) (shows : Shows p (8 * j) 64 x) where
       let r : min (8 * j + 0 + trailingZeros 64 x) b ≡ firstFrom p a b =
       rest-first p (8 * j) 64 x 0 x shows (omega arith) whole h s a b (omega arith) (omega arith) (λ i u w. f i u (omega arith)) in
       rw e at r
+
+-- in a window: the first record from s past its beginning on, where something is left of it
+module _ (here : Bool) (bs : List ℕ) (a s rest : ℕ) (bytes : (k : ℕ) → byteAt bs k < 256) (is : rest ≡ windowAt here bs a / 2 ^ s) (some : 0 < rest) where
+  left-is : rest ≡ soughtAt here bs (a / 8) / 2 ^ (a % 8 + s)
+  left-is = is ∙ shr-shr (soughtAt here bs (a / 8)) (a % 8) s
+
+  pub window-in : a % 8 + s < 64
+  window-in = ⊎-elim (λ (u : a % 8 + s < 64). u)
+      (λ (u : 64 ≤ a % 8 + s). absurd (omega (arith, some, left-is, div-eq-of-lt (lt-of-lt-of-le (sought-lt here bs (a / 8) bytes) (pow-mono u)))))
+      (lt-or-ge (a % 8 + s) 64)
+
+  -- it lies in the window
+  pub window-near : a + s + trailingZeros 64 rest < a + 64
+  window-near =
+      let f = zeros-in (sought here bs) (8 * (a / 8)) 64 (soughtAt here bs (a / 8)) (a % 8 + s) rest (sought-shows here bs (a / 8) bytes) window-in left-is (sought-lt here bs (a / 8) bytes) some in
+      omega (arith, f)
+
+  pub window-first : (b : ℕ) → a + 64 ≤ b → a + s + trailingZeros 64 rest ≡ firstFrom (sought here bs) (a + s) b
+  window-first b l =
+      let e : 8 * (a / 8) + (a % 8 + s) ≡ a + s = omega arith in
+      let f = zeros-in (sought here bs) (8 * (a / 8)) 64 (soughtAt here bs (a / 8)) (a % 8 + s) rest (sought-shows here bs (a / 8) bytes) window-in left-is (sought-lt here bs (a / 8) bytes) some in
+      let m : min (8 * (a / 8) + (a % 8 + s) + trailingZeros 64 rest) b ≡ a + s + trailingZeros 64 rest = omega (arith, f) in
+      sym m ∙ rest-first (sought here bs) (8 * (a / 8)) 64 (soughtAt here bs (a / 8)) (a % 8 + s) rest (sought-shows here bs (a / 8) bytes) window-in left-is (sought-lt here bs (a / 8) bytes) some
+      (a + s) b (omega arith) (omega (arith, window-in)) (λ i u w. absurd (omega arith))

@@ -1,5 +1,5 @@
--- Eight bytes as one number, and the records that are looked for. No promise of a public call names it. Assumes nothing.
-use Prim.Native.Nat.{ℕ, _+_, _-_, _*_}
+-- Eight bytes as one number, and the records that are looked for. Of the public calls `window` alone names it. Assumes nothing.
+use Prim.Native.Nat.{ℕ, _+_, _-_, _*_, _/_, _%_, _^_}
 use mathlib.Core.Bool.{Bool, not, cond}
 use mathlib.Core.List.{List}
 use lib.ListN.{getD}
@@ -21,3 +21,7 @@ soughtAt here bs j = cond here (wordAt bs j) (18446744073709551615 - wordAt bs j
 -- whether record i is one that is looked for: a present one, or an absent one
 abbrev pub sought : Bool → List ℕ → ℕ → Bool
 sought here bs i = cond here (present bs i) (not (present bs i))
+
+-- what is looked for from record a on, at the lowest bits
+abbrev pub windowAt : Bool → List ℕ → ℕ → ℕ
+windowAt here bs a = soughtAt here bs (a / 8) / 2 ^ (a % 8)

@@ -5,7 +5,7 @@ ghost use Prim.Native.Nat.{_+_, _*_, _<_, _≤_, min};
 ghost use lib.ListN.{length, getD};
 ghost use Rattle.ranges.specs.Ranges.{firstFrom};
 ghost use Rattle.bits.specs.Bitmap.{present, countFor};
-ghost use Rattle.bits.specs.Word.{wordAt, soughtAt, sought};
+ghost use Rattle.bits.specs.Word.{wordAt, soughtAt, sought, windowAt};
 
 // Byte j, or 0 past the last.
 fn byte_at(bytes: &[u8], j: usize) -> u64
@@ -122,6 +122,13 @@ fn look(bytes: &[u8], j: usize, here: bool) -> u64
 {
     let found = word(bytes, j);
     if here { found } else { u64::MAX - found }
+}
+
+// The records from from on, at least 57 of them, with a 1 for each that is present, or for each that is absent; 0 past them.
+pub fn window(bytes: &[u8], from: usize, here: bool) -> u64
+    ensures { λ r. ⌜ r ≡ windowAt here (now (bytes .entry)) from ⌝ }
+{
+    look(bytes, from >> 3, here) >> (from & 7)
 }
 
 // The first record from from on, below count, that is looked for; eight bytes a turn.

@@ -1,6 +1,6 @@
 -- Records a step apart, and the rule's run of them. Assumes nothing.
 use Prim.Native.Nat.{ℕ, zero, suc, _+_, _*_, _-_, _≤_, _<_}
-use mathlib.Core.Path.{_≡_, refl, sym, ap, ap₂, _∙_}
+use mathlib.Core.Path.{_≡_, refl, sym, ap, ap₂, _∙_, subst}
 use mathlib.Core.Logic.{⊎-elim}
 use mathlib.Core.Bool.{Bool, true, false, not}
 use mathlib.Core.List.{List, [], _∷_, _++_, append-assoc}
@@ -11,7 +11,7 @@ use lib.Dec.{ltb}
 use lib.IntN.{ℤ, pos, _-ℤ_}
 use Rattle.ranges.specs.Ranges.{firstFrom}
 use Rattle.ranges.proofs.Bools.{and-false, clash, not-no}
-use Rattle.ranges.proofs.Spans.{lt-or-ge}
+use Rattle.ranges.proofs.Spans.{first-unique, lt-or-ge}
 use Rattle.keys.specs.Widths.{fitsIn, half16}
 use Rattle.keys.proofs.Keys.{sub-high}
 use Rattle.meaning.specs.Sequence.{sameZ}
@@ -206,3 +206,22 @@ module _ (p : ℕ → Bool) (count at by : ℕ) (some : 0 < by) where
         let k : n - 1 + 1 ≡ n = omega (arith, g .two) in
         rw (sym k) (first-strip p count at by (n - 1) next some small (omega (arith, g .two)) (g .strip) (omega (arith, g .is-last, g .inside)) (e ∙ ap (λ (x : ℕ). firstFrom p (x + 1) count) (g .is-last))
         (λ m s. parted m (ap (λ (x : ℕ). next - x) (g .is-last) ∙ s)))
+
+-- ---- what a window tells
+
+module _ (p : ℕ → Bool) (count at : ℕ) (far : at + 64 ≤ count) where
+  -- n records one after the other, and where the next begins
+  pub quick-ones : (n next : ℕ) → 2 ≤ n → n < 64 → at + n ≡ firstFrom (λ i. not (p i)) at count → next ≡ firstFrom p (at + n) count → First p count at 1 n next
+  quick-ones n next two few e f =
+      let here : (i : ℕ) → at ≤ i → i < at + n → p i ≡ true = λ i u w. not-false (p i) (next-nowhere (λ i. not (p i)) at count (at + n) (omega arith) e i u w) in
+      let k : at + n - at ≡ n = omega arith in
+      let end : at + n ≡ firstFrom (λ i. not (p i)) (at + 2) count = sym (first-unique (λ i. not (p i)) (at + 2) count (at + n) (omega arith) (omega arith)
+      (λ i u w. ap not (here i (omega arith) w)) (λ m. next-holds (λ i. not (p i)) at count (at + n) (omega arith) e m)) in
+      subst (λ (x : ℕ). First p count at 1 x next) k (first-ones p count at (at + n) next (omega arith) (here at (omega arith) (omega arith)) (here (at + 1) (omega arith) (omega arith)) end f)
+
+  -- two records, and where the next run begins
+  pub quick-two : (second third : ℕ) → p at ≡ true → second ≡ firstFrom p (at + 1) count → second < at + 64 → third ≡ firstFrom p (second + 1) count
+      → (third - second ≡ second - at → ⊥) → First p count at (second - at) 2 third
+  quick-two second third h e near f parted =
+      let from = next-from p (at + 1) count second (omega arith) e in
+      going-first p count at (second - at) (omega arith) second 2 third (going-start p count at (second - at) (omega arith) second (omega arith) h e (omega arith) (omega arith)) f (omega arith) (λ m s. parted s)

@@ -15,6 +15,7 @@ ghost use Rattle.importing.specs.Inner.{First, RoomFor};
 use bits::count_present;
 use bits::next_absent;
 use bits::next_present;
+use bits::window;
 use meaning::Refusal;
 
 // The run count and the ones, or a refusal.
@@ -74,8 +75,8 @@ fn run_of_steps(bytes: &[u8], at: usize, second: usize, count: usize) -> Run
     }
 }
 
-// The run that begins at a record.
-fn run_at(bytes: &[u8], at: usize, count: usize) -> Run
+// The run that begins at a record, by searches from record to record.
+fn run_from(bytes: &[u8], at: usize, count: usize) -> Run
     requires { ⌜ (at < count) × (count ≤ 524288) × (present (now bytes) at ≡ true) ⌝ }
     ensures { λ r. ⌜ First (present (now (bytes .entry))) count at (r .step) (r .n) (r .next) ⌝ }
 {
@@ -99,6 +100,71 @@ fn run_at(bytes: &[u8], at: usize, count: usize) -> Run
         return run_of_ones(bytes, at, count);
     }
     run_of_steps(bytes, at, second, count)
+}
+
+// No run: where a window does not tell.
+fn untold() -> Run
+    ensures { λ r. ⌜ r .n ≡ 0 ⌝ }
+{
+    Run {
+        step: 0,
+        n: 0,
+        next: 0,
+    }
+}
+
+// The run that begins at a record, where one window tells all of it and where the next begins: records one after the other, or two of them.
+fn quick(bytes: &[u8], at: usize, count: usize) -> Run
+    requires { ⌜ (at + 64 ≤ count) × (count ≤ 524288) × (present (now bytes) at ≡ true) ⌝ }
+    ensures { λ r. ⌜ (0 < r .n → First (present (now (bytes .entry))) count at (r .step) (r .n) (r .next)) ⌝ }
+{
+    let gaps = window(bytes, at, false);
+    if gaps == 0 {
+        return untold();
+    }
+    let n = u64::trailing_zeros(gaps) as usize;
+    let here = window(bytes, at, true);
+    let after = here >> n;
+    if after == 0 {
+        return untold();
+    }
+    let next = at + n + (u64::trailing_zeros(after) as usize);
+    if n != 1 {
+        return Run {
+            step: 1,
+            n: n,
+            next: next,
+        };
+    }
+    let by = next - at;
+    let rest = (here >> by) >> 1;
+    if rest == 0 {
+        return untold();
+    }
+    let third = next + 1 + (u64::trailing_zeros(rest) as usize);
+    if third - next == by {
+        return untold();
+    }
+    Run {
+        step: by,
+        n: 2,
+        next: third,
+    }
+}
+
+// The run that begins at a record.
+fn run_at(bytes: &[u8], at: usize, count: usize) -> Run
+    requires { ⌜ (at < count) × (count ≤ 524288) × (present (now bytes) at ≡ true) ⌝ }
+    ensures { λ r. ⌜ First (present (now (bytes .entry))) count at (r .step) (r .n) (r .next) ⌝ }
+{
+    if count < at + 64 {
+        return run_from(bytes, at, count);
+    }
+    let run = quick(bytes, at, count);
+    if run.n != 0 {
+        return run;
+    }
+    run_from(bytes, at, count)
 }
 
 // How many runs the rule needs; 4097 if it needs more than 4096, and then no more of the bitmap is read.
