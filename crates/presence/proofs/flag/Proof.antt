@@ -11,7 +11,7 @@ use borrow.Author.Tests.{lt-ltb, le-ltb}
 use Rattle.ranges.proofs.Bools.{either}
 use Rattle.keys.proofs.Bits.{same}
 use Rattle.meaning.specs.Sequence.{sameZ}
-use Rattle.presence.proofs.Marks.{same-is}
+use Rattle.meaning.proofs.Carried.{same-is}
 use borrow.Author.Needs.{needs}
 use Rattle.presence.proofs.flag.Statement.{statement}
 use Rattle.presence.proofs.flag.Tie as tie
