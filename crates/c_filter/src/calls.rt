@@ -1,10 +1,13 @@
 // The calls on a filter.
 ghost use mathlib.Core.Path.{_≡_};
+ghost use mathlib.Core.Bool.{true};
+ghost use lib.ListN.{length};
 ghost use Rattle.meaning.specs.Contracts.{source};
 ghost use Rattle.loftsplice.specs.declared.scan.Move.the-variants.{Next, Seek};
-ghost use Rattle.filter_interval.specs.Filter.{filterCurrentOf};
+ghost use Rattle.filter_interval.specs.Filter.{unread, filterCurrentOf};
+ghost use Rattle.filter_interval.specs.Asking.{Leads, Limits};
 ghost use Rattle.c_forms.specs.Answer.{flatAnswer};
-ghost use Rattle.c_filter.specs.Filter.{askFit, flatNewFilter, callFilter, askFilter, flatReset};
+ghost use Rattle.c_filter.specs.Filter.{askFit, flatNewFilter, handed, callFilter, askFilter, flatReset};
 ghost use Rattle.c_filter.specs.Contracts.{lists};
 use crate::flat::FlatFilter;
 use crate::flat::FlatNewFilter;
@@ -28,7 +31,11 @@ use c_forms::limits::variables_of;
 use c_forms::scans::FlatScan;
 use c_forms::scans::scan_of;
 use filter_interval::Filter;
-use filter_interval::sifting::sift;
+use filter_interval::sifting::Asked;
+use filter_interval::sifting::ask;
+use filter_interval::sifting::ask_bare;
+use filter_interval::sifting::lead_on;
+use filter_interval::sifting::too_many;
 use loftsplice::scan::Move;
 
 // "Constant bounds are folded when a filter is made", in the mode that is chosen here; or refused 100, 8.
@@ -52,6 +59,40 @@ pub extern "C" fn loftsplice_filter_new(
     }
 }
 
+// Whether there are no variable bounds.
+fn is_bare(lows: &[u64], ups: &[u64]) -> bool
+    ensures { λ r. ⌜ (r ≡ true → (length (now (lows .entry)) ≡ 0) × (length (now (ups .entry)) ≡ 0)) ⌝ }
+{
+    if 0 < lows.len() {
+        return false;
+    }
+    ups.len() == 0
+}
+
+// What a call asks of the filter's scan. Lists that are not there are not built.
+fn asked_of(
+    filter: Filter,
+    step: Move,
+    lows: &[u64],
+    lowkinds: &[u8],
+    ups: &[u64],
+    upkinds: &[u8],
+    values: &[i64],
+    found: &[u8],
+) -> Asked
+    ensures told { λ r. ⌜ r .unread ≡ unread (handed step (lists lows lowkinds ups upkinds values found)) (filter .state) ⌝ }
+    ensures lead { λ r. ⌜ Leads (handed step (lists lows lowkinds ups upkinds values found)) filter (filter .state) (r .lead) ⌝ }
+    ensures up { λ r. ⌜ Limits (handed step (lists lows lowkinds ups upkinds values found)) filter (filter .state) (r .upper) ⌝ }
+{
+    if is_bare(lows, ups) {
+        return ask_bare(filter, step);
+    }
+    let lower = variables_of(lows, lowkinds);
+    let upper = variables_of(ups, upkinds);
+    let inputs = inputs_of(values, found);
+    ask(filter, step, lower, upper, inputs)
+}
+
 // A next or a seek; or refused 100, 1, 2, 3, 6, 8, 7, 9. One function for both, so that a filter is taken apart and put together again inside it:
 // through memory, each copy of a bound is read back slowly.
 fn call(
@@ -70,11 +111,10 @@ fn call(
     ensures { λ r. ⌜ r ≡ callFilter (source starts ends steps) step (lists lows lowkinds ups upkinds values found) filter ⌝ }
 {
     if is_call(filter, lows, lowkinds, ups, upkinds, values, found) {
-        let lower = variables_of(lows, lowkinds);
-        let upper = variables_of(ups, upkinds);
-        let inputs = inputs_of(values, found);
         let given = filter_of(filter);
-        let sifted = sift(given, starts, ends, steps, step, lower, upper, inputs);
+        let many = too_many(lows.len(), ups.len(), values.len());
+        let asked = asked_of(given, step, lows, lowkinds, ups, upkinds, values, found);
+        let sifted = lead_on(given, starts, ends, steps, many, asked);
         flat_sifted(filter, sifted)
     } else {
         let answer = bad_form();

@@ -1,13 +1,13 @@
 // One call on a filter: what next and seek share. The bounds are read first, the scan is led once, and its answer settles the filter.
 ghost use mathlib.Core.Path.{_≡_};
-ghost use mathlib.Core.Bool.{_||_};
+ghost use mathlib.Core.Bool.{false, _||_};
 ghost use lib.Dec.{ltb};
 ghost use Rattle.meaning.specs.Contracts.{source};
 ghost use Rattle.loftsplice.specs.Scan.{outcomeOf};
 ghost use Rattle.loftsplice.specs.Lead.{leadOf};
 ghost use Rattle.filter_interval.specs.declared.FilterState.the-variants.{Before};
-ghost use Rattle.filter_interval.specs.Filter.{siftingOf, handing, raised, leadTo, unread, callOf};
-ghost use Rattle.filter_interval.specs.Inner.{Leads, Limits, settled};
+ghost use Rattle.filter_interval.specs.Filter.{siftingOf, Call, handing, raised, leadTo, unread, callOf};
+ghost use Rattle.filter_interval.specs.Asking.{Leads, Limits, leadFor, upFor, settled};
 use crate::Filter;
 use crate::FilterState;
 use crate::Sifted;
@@ -29,14 +29,14 @@ use loftsplice::scan::Moved;
 use meaning::Answer;
 
 // Where a call leads the scan, and the limit above that is then to be met; where a bound was not read these say nothing.
-struct Asked {
-    unread: bool,
-    lead: Lead,
-    upper: Limit,
+pub struct Asked {
+    pub unread: bool,
+    pub lead: Lead,
+    pub upper: Limit,
 }
 
 // 8: "over 16 bounds in a list, over 8 inputs"
-fn too_many(lows: usize, ups: usize, ins: usize) -> bool
+pub fn too_many(lows: usize, ups: usize, ins: usize) -> bool
     ensures { λ r. ⌜ r ≡ (ltb 16 lows || ltb 16 ups || ltb 8 ins) ⌝ }
 {
     if 16 < lows {
@@ -118,7 +118,7 @@ fn begin(filter: Filter, step: Move, lower: Variables, upper: Variables, inputs:
 }
 
 // Before: by the bounds as read; Within: by the kept bound; "After stays and moves nothing".
-fn ask(filter: Filter, step: Move, lower: Variables, upper: Variables, inputs: Inputs) -> Asked
+pub fn ask(filter: Filter, step: Move, lower: Variables, upper: Variables, inputs: Inputs) -> Asked
     ensures told { λ r. ⌜ r .unread ≡ unread (handing step lower upper inputs) (filter .state) ⌝ }
     ensures lead { λ r. ⌜ Leads (handing step lower upper inputs) filter (filter .state) (r .lead) ⌝ }
     ensures up { λ r. ⌜ Limits (handing step lower upper inputs) filter (filter .state) (r .upper) ⌝ }
@@ -126,6 +126,37 @@ fn ask(filter: Filter, step: Move, lower: Variables, upper: Variables, inputs: I
     let state = filter.state;
     match state {
         FilterState::Before => begin(filter, step, lower, upper, inputs),
+        FilterState::Within(kept) => Asked {
+            unread: false,
+            lead: Lead::Go(step),
+            upper: kept,
+        },
+        FilterState::After => Asked {
+            unread: false,
+            lead: Lead::Stay,
+            upper: Limit::Free,
+        },
+    }
+}
+
+// The same of a call without variable bounds: the folded constants are its bounds.
+pub fn ask_bare(filter: Filter, step: Move) -> Asked
+    ensures told { λ r. ⌜ r .unread ≡ false ⌝ }
+    ensures lead { λ r. ⌜ ((k : Call) → k .move ≡ step → k .lower .count ≡ 0 → r .lead ≡ leadFor k filter (filter .state)) ⌝ }
+    ensures up { λ r. ⌜ ((k : Call) → k .upper .count ≡ 0 → r .upper ≡ upFor k filter (filter .state)) ⌝ }
+{
+    let state = filter.state;
+    match state {
+        FilterState::Before => {
+            let low = filter.lower;
+            let upper = filter.upper;
+            let raised = raise(step, low);
+            Asked {
+                unread: false,
+                lead: lead_to(raised),
+                upper,
+            }
+        }
         FilterState::Within(kept) => Asked {
             unread: false,
             lead: Lead::Go(step),
@@ -181,7 +212,7 @@ fn settle(filter: Filter, up: Limit, moved: Moved) -> Sifted
 }
 
 // The scan is led once, and its answer settles the filter.
-fn lead_on(
+pub fn lead_on(
     filter: Filter,
     starts: &[i64],
     ends: &[u64],
@@ -200,7 +231,7 @@ fn lead_on(
 }
 
 // One call, a next or a seek: refused 1, 2, 3, 6, 8, 7, 9, or one step.
-pub fn sift(
+pub(crate) fn sift(
     filter: Filter,
     starts: &[i64],
     ends: &[u64],

@@ -24,7 +24,7 @@ use Rattle.filter_interval.specs.declared.FilterState.{FilterState}
 use Rattle.filter_interval.specs.declared.FilterState.the-variants.{Before, Within, After}
 use Rattle.filter_interval.specs.declared.Filter.{Filter}
 use Rattle.filter_interval.specs.Filter.{Sifting, Call, stepFrom, tooMany, unread, refuseCall, callOf}
-use Rattle.filter_interval.specs.Inner.{upFor}
+use Rattle.filter_interval.specs.Asking.{upFor}
 use Rattle.theorems.specs.Exact.{accepted}
 use Rattle.theorems.specs.Comments.{Inside, Outside}
 use Rattle.theorems.proofs.FilterCalls.{step-accepted, call-accepts, call-does}

@@ -33,7 +33,7 @@ use Rattle.loftsplice.specs.Scan.{Outcome, goTo, nextFrom, seekFrom, elementIn,
 use Rattle.loftsplice.specs.Lead.{found, onPast, leadFrom}
 use Rattle.bounds.specs.Bounds.{isExclusive, meetsUpper, within}
 use Rattle.filter_interval.specs.Filter.{Call, Sifting, lowerOf, upperOf, raised, settle, stepFrom, callOf, currentIn, filterCurrentOf, leadTo}
-use Rattle.filter_interval.specs.Inner.{upFor}
+use Rattle.filter_interval.specs.Asking.{upFor}
 use Rattle.theorems.specs.Exact.{accepted}
 use Rattle.theorems.specs.Comments.{Inside, passed, Past, Outside}
 use Rattle.theorems.proofs.FilterCalls.{call-accepts, call-does, call-keeps, filter-current-accepts, filter-current-does}

@@ -1,5 +1,9 @@
 -- `calls::call` meets its contract. Assumes nothing.
 use mathlib.Core.Path.{sym, _∙_}
+use Rattle.meaning.specs.Column.{sourceOf}
+use Rattle.filter_interval.specs.Filter.{Call}
+use Rattle.filter_interval.proofs.FilterCases.{call-is}
+use Rattle.c_filter.specs.Filter.{handed}
 use Rattle.c_filter.proofs.Filters.{called, not-called}
 use borrow.Author.Needs.{needs}
 use Rattle.c_filter.proofs.calls.call.Statement.{statement}
@@ -12,23 +16,24 @@ start c =
     let known-first = known-fourth .before .before .before in
     known-first .before
 
+-- what the library is handed
+abbrev call : tie.Start → Call
+call s = handed (s .args .step) (record { lows = s .args .lows .now; lowKinds = s .args .lowkinds .now; ups = s .args .ups .now; upKinds = s .args .upkinds .now; values = s .args .values .now; found = s .args .found .now })
+
 is-call-requires : tie.Need-is-call-requires
 is-call-requires c κs = search needs
-
-variables-of-requires : tie.Need-variables-of-requires
-variables-of-requires c κs = search needs
-
-variables-of-requires-2 : tie.Need-variables-of-requires-2
-variables-of-requires-2 c κs = search needs
-
-inputs-of-requires : tie.Need-inputs-of-requires
-inputs-of-requires c κs = search needs
 
 filter-of-requires : tie.Need-filter-of-requires
 filter-of-requires c κs = search needs
 
-sift-requires : tie.Need-sift-requires
-sift-requires c κs = search needs
+too-many-requires : tie.Need-too-many-requires
+too-many-requires c κs = search needs
+
+asked-of-requires : tie.Need-asked-of-requires
+asked-of-requires c κs = search needs
+
+lead-on-requires : tie.Need-lead-on-requires
+lead-on-requires c κs = search needs
 
 flat-sifted-requires : tie.Need-flat-sifted-requires
 flat-sifted-requires c κs = search needs
@@ -38,15 +43,16 @@ bad-form-requires c κs = search needs
 
 returns : tie.Need-returns
 returns c =
-    let at-call = c .before in
-    let at-filter = at-call .before in
-    let at-inputs = at-filter .before in
-    let at-upper = at-inputs .before in
-    let at-lower = at-upper .before in
-    let at-test = at-lower .before in
+    let at-lead = c .before in
+    let at-asked = at-lead .before in
+    let at-many = at-asked .before in
+    let at-filter = at-many .before in
+    let at-test = at-filter .before in
     let at-start = start (at-test .before) in
+    let a = at-asked .asked-of .ensures in
     called (at-start .args .filter) _ _ _ (sym (at-test .before .is-call .ensures) ∙ at-test .if1 .taken) (at-filter .filter-of .ensures)
-    (rw (at-lower .variables-of .ensures, at-upper .variables-of2 .ensures, at-inputs .inputs-of .ensures) at (at-call .sift .ensures)) (c .flat-sifted .ensures)
+    (at-lead .lead-on .ensures ∙ call-is (sourceOf _) (call at-start) (at-filter .filter-of .result) _ _ _ _ (at-many .too-many .ensures) (a .0) (a .1 .0) (a .1 .1))
+    (c .flat-sifted .ensures)
 
 returns-2 : tie.Need-returns-2
 returns-2 c =
@@ -59,11 +65,10 @@ call-spec =
     tie.close
     (tie.spec
     is-call-requires
-    variables-of-requires
-    variables-of-requires-2
-    inputs-of-requires
     filter-of-requires
-    sift-requires
+    too-many-requires
+    asked-of-requires
+    lead-on-requires
     flat-sifted-requires
     bad-form-requires
     returns
