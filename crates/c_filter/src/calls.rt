@@ -4,8 +4,8 @@ ghost use mathlib.Core.Bool.{true};
 ghost use lib.ListN.{length};
 ghost use Rattle.meaning.specs.Contracts.{source};
 ghost use Rattle.loftsplice.specs.declared.scan.Move.the-variants.{Next, Seek};
-ghost use Rattle.filter_interval.specs.Filter.{unread, filterCurrentOf};
-ghost use Rattle.filter_interval.specs.Asking.{Leads, Limits};
+ghost use Rattle.filter_interval.specs.Filter.{filterCurrentOf};
+ghost use Rattle.filter_interval.specs.Asking.{askedOf};
 ghost use Rattle.c_forms.specs.Answer.{flatAnswer};
 ghost use Rattle.c_filter.specs.Filter.{askFit, flatNewFilter, handed, callFilter, askFilter, flatReset};
 ghost use Rattle.c_filter.specs.Contracts.{lists};
@@ -80,9 +80,7 @@ fn asked_of(
     values: &[i64],
     found: &[u8],
 ) -> Asked
-    ensures told { λ r. ⌜ r .unread ≡ unread (handed step (lists lows lowkinds ups upkinds values found)) (filter .state) ⌝ }
-    ensures lead { λ r. ⌜ Leads (handed step (lists lows lowkinds ups upkinds values found)) filter (filter .state) (r .lead) ⌝ }
-    ensures up { λ r. ⌜ Limits (handed step (lists lows lowkinds ups upkinds values found)) filter (filter .state) (r .upper) ⌝ }
+    ensures { λ r. ⌜ r ≡ askedOf (handed step (lists lows lowkinds ups upkinds values found)) filter ⌝ }
 {
     if is_bare(lows, ups) {
         return ask_bare(filter, step);

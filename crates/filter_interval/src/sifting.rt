@@ -1,13 +1,13 @@
 // One call on a filter: what next and seek share. The bounds are read first, the scan is led once, and its answer settles the filter.
 ghost use mathlib.Core.Path.{_≡_};
-ghost use mathlib.Core.Bool.{false, _||_};
+ghost use mathlib.Core.Bool.{_||_};
 ghost use lib.Dec.{ltb};
 ghost use Rattle.meaning.specs.Contracts.{source};
 ghost use Rattle.loftsplice.specs.Scan.{outcomeOf};
 ghost use Rattle.loftsplice.specs.Lead.{leadOf};
 ghost use Rattle.filter_interval.specs.declared.FilterState.the-variants.{Before};
-ghost use Rattle.filter_interval.specs.Filter.{siftingOf, Call, handing, raised, leadTo, unread, callOf};
-ghost use Rattle.filter_interval.specs.Asking.{Leads, Limits, leadFor, upFor, settled};
+ghost use Rattle.filter_interval.specs.Filter.{siftingOf, handing, raised, leadTo, callOf};
+ghost use Rattle.filter_interval.specs.Asking.{askedIn, askedOf, bare, settled};
 use crate::Filter;
 use crate::FilterState;
 use crate::Sifted;
@@ -28,7 +28,7 @@ use loftsplice::scan::Move;
 use loftsplice::scan::Moved;
 use meaning::Answer;
 
-// Where a call leads the scan, and the limit above that is then to be met; where a bound was not read these say nothing.
+// Where a call leads the scan, and the limit above that is then to be met. Where a bound was not read: nowhere, and the filter's own limit.
 pub struct Asked {
     pub unread: bool,
     pub lead: Lead,
@@ -86,9 +86,7 @@ fn lead_to(low: Limit) -> Lead
 
 // Before: the folded constants with the variable bounds as read, the upper ones in the filter's mode.
 fn begin(filter: Filter, step: Move, lower: Variables, upper: Variables, inputs: Inputs) -> Asked
-    ensures told { λ r. ⌜ r .unread ≡ unread (handing step lower upper inputs) Before ⌝ }
-    ensures lead { λ r. ⌜ Leads (handing step lower upper inputs) filter Before (r .lead) ⌝ }
-    ensures up { λ r. ⌜ Limits (handing step lower upper inputs) filter Before (r .upper) ⌝ }
+    ensures { λ r. ⌜ r ≡ askedIn (handing step lower upper inputs) filter Before ⌝ }
 {
     let mode = filter.mode;
     let low = filter.lower;
@@ -119,9 +117,7 @@ fn begin(filter: Filter, step: Move, lower: Variables, upper: Variables, inputs:
 
 // Before: by the bounds as read; Within: by the kept bound; "After stays and moves nothing".
 pub fn ask(filter: Filter, step: Move, lower: Variables, upper: Variables, inputs: Inputs) -> Asked
-    ensures told { λ r. ⌜ r .unread ≡ unread (handing step lower upper inputs) (filter .state) ⌝ }
-    ensures lead { λ r. ⌜ Leads (handing step lower upper inputs) filter (filter .state) (r .lead) ⌝ }
-    ensures up { λ r. ⌜ Limits (handing step lower upper inputs) filter (filter .state) (r .upper) ⌝ }
+    ensures { λ r. ⌜ r ≡ askedOf (handing step lower upper inputs) filter ⌝ }
 {
     let state = filter.state;
     match state {
@@ -141,9 +137,7 @@ pub fn ask(filter: Filter, step: Move, lower: Variables, upper: Variables, input
 
 // The same of a call without variable bounds: the folded constants are its bounds.
 pub fn ask_bare(filter: Filter, step: Move) -> Asked
-    ensures told { λ r. ⌜ r .unread ≡ false ⌝ }
-    ensures lead { λ r. ⌜ ((k : Call) → k .move ≡ step → k .lower .count ≡ 0 → r .lead ≡ leadFor k filter (filter .state)) ⌝ }
-    ensures up { λ r. ⌜ ((k : Call) → k .upper .count ≡ 0 → r .upper ≡ upFor k filter (filter .state)) ⌝ }
+    ensures { λ r. ⌜ r ≡ askedOf (bare step) filter ⌝ }
 {
     let state = filter.state;
     match state {

@@ -1,7 +1,7 @@
 -- `calls::asked_of` meets its contract. Assumes nothing.
-use mathlib.Core.Path.{refl, _∙_}
+use mathlib.Core.Path.{_∙_}
 use Rattle.filter_interval.specs.Filter.{Call}
-use Rattle.filter_interval.proofs.FilterCases.{bare-read}
+use Rattle.filter_interval.proofs.FilterCases.{bare-same}
 use Rattle.c_filter.specs.Filter.{handed}
 use borrow.Author.Needs.{needs}
 use Rattle.c_filter.proofs.calls.asked_of.Statement.{statement}
@@ -27,10 +27,8 @@ returns : tie.Need-returns
 returns c =
     let at-test = c .before in
     let s = start (at-test .before) in
-    let k = call s in
     let none = at-test .before .is-bare .ensures (at-test .if1 .taken) in
-    let a = c .ask-bare .ensures in
-    (a .0 ∙ bare-read k (none .0) (none .1) (s .args .filter .state), (λ _. a .1 .0 k refl (none .0), λ _. a .1 .1 k (none .1)))
+    c .ask-bare .ensures ∙ bare-same (call s) (s .args .filter) (none .0) (none .1)
 
 variables-of-requires : tie.Need-variables-of-requires
 variables-of-requires c κs = search needs

@@ -49,9 +49,8 @@ returns c =
     let at-filter = at-many .before in
     let at-test = at-filter .before in
     let at-start = start (at-test .before) in
-    let a = at-asked .asked-of .ensures in
     called (at-start .args .filter) _ _ _ (sym (at-test .before .is-call .ensures) ∙ at-test .if1 .taken) (at-filter .filter-of .ensures)
-    (at-lead .lead-on .ensures ∙ call-is (sourceOf _) (call at-start) (at-filter .filter-of .result) _ _ _ _ (at-many .too-many .ensures) (a .0) (a .1 .0) (a .1 .1))
+    (at-lead .lead-on .ensures ∙ call-is (sourceOf _) (call at-start) (at-filter .filter-of .result) _ _ (at-many .too-many .ensures) (at-asked .asked-of .ensures))
     (c .flat-sifted .ensures)
 
 returns-2 : tie.Need-returns-2

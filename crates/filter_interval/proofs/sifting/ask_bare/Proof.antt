@@ -1,10 +1,8 @@
 -- `sifting::ask_bare` meets its contract. Assumes nothing.
-use mathlib.Core.Path.{refl, sym, ap, _∙_}
-use Rattle.bounds.specs.declared.Limit.{Limit}
-use Rattle.loftsplice.specs.declared.scan.Move.{Move}
-use Rattle.loftsplice.specs.declared.leading.Lead.the-variants.{Go}
-use Rattle.filter_interval.specs.Filter.{raised, leadTo}
-use Rattle.filter_interval.proofs.FilterCases.{bare-lower, bare-upper}
+use mathlib.Core.Path.{refl, ap, _∙_}
+use Rattle.filter_interval.specs.Filter.{leadTo}
+use Rattle.filter_interval.specs.Asking.{bare}
+use Rattle.filter_interval.proofs.FilterCases.{bare-asks}
 use borrow.Author.Needs.{needs}
 use Rattle.filter_interval.proofs.sifting.ask_bare.Statement.{statement}
 use Rattle.filter_interval.proofs.sifting.ask_bare.Tie as tie
@@ -28,19 +26,13 @@ returns : tie.Need-returns
 returns c =
     let at-told = c .before .before in
     let s = at-told .before .before in
-    rw (at-told .enum-told .given .1) (
-      refl,
-      (
-        λ k is e. c .lead-to .ensures ∙ ap leadTo (c .before .raise .ensures ∙ ap (λ (m : Move). raised m (s .args .filter .lower)) (sym is) ∙ ap (λ (l : Limit). raised (k .move) l) (sym (bare-lower (s .args .filter) k e))),
-        λ k e. sym (bare-upper (s .args .filter) k e),
-      ),
-    )
+    rw (at-told .enum-told .given .1) (bare-asks (bare (s .args .step)) (s .args .filter) refl refl _ (c .lead-to .ensures ∙ ap leadTo (c .before .raise .ensures)))
 
 returns-2 : tie.Need-returns-2
-returns-2 c = rw (c .before .state .given .1) (refl, (λ k is _. ap Go (sym is), λ _ _. refl))
+returns-2 c = rw (c .before .state .given .1)
 
 returns-3 : tie.Need-returns-3
-returns-3 c = rw (c .enum-told2 .given .1) (refl, (λ _ _ _. refl, λ _ _. refl))
+returns-3 c = rw (c .enum-told2 .given .1)
 
 pub ask-bare-spec : {M : Type 1} → statement M
 ask-bare-spec = tie.close (tie.spec enum-told raise-requires lead-to-requires enum-known-state enum-told-2 returns returns-2 returns-3)
