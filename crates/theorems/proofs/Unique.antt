@@ -42,6 +42,7 @@ use Rattle.loftsplice.specs.Lead.{leadOf}
 use Rattle.filter_interval.specs.declared.Fitted.{Fitted}
 use Rattle.filter_interval.specs.declared.Fitted.the-variants.{Ready as FittedReady, Refused as FittedRefused}
 use Rattle.filter_interval.specs.declared.Sifted.{Sifted}
+use Rattle.filter_interval.specs.declared.sifting.Asked.{Asked}
 use Rattle.loftsplice.specs.declared.listing.Listed.{Listed}
 use Rattle.loftsplice.specs.declared.listing.Listed.the-variants.{Sum, Refused as ListedRefused}
 use Rattle.loftsplice.specs.declared.running.Counted.{Counted}
@@ -55,6 +56,7 @@ use Rattle.loftsplice.specs.Scan.{saysAnswer, saysPosition, saysMade, outcomeOf
 use Rattle.loftsplice.specs.Running.{saysCounted, tallyOf, nextRunOf, nextRunOut, seekRunOf, seekRunOut, saysFooted, footingOf}
 use Rattle.loftsplice.specs.Listing.{saysListed, Batch, listOf, outAfter, countsAfter}
 use Rattle.filter_interval.specs.Filter.{Call, saysFitted, siftingOf, fitOf, callOf, filterCurrentOf, filterResetOf}
+use Rattle.filter_interval.specs.Asking.{settled}
 
 -- ---- what each answer says
 
@@ -193,6 +195,11 @@ module _ (p : Source) where
     -- next and seek
     pub filter-call-one : (k : Call) (x y : Sifted) → siftingOf x ≡ callOf p k f → siftingOf y ≡ callOf p k f → x ≡ y
     filter-call-one k = one-result siftingOf sifting-apart
+
+    -- led by what was asked
+    pub lead-on-one : (many : Bool) (to : Asked) (x y : Sifted) → siftingOf x ≡ settled f (to .upper) (leadOf p many (to .unread) (to .lead) (f .scan))
+        → siftingOf y ≡ settled f (to .upper) (leadOf p many (to .unread) (to .lead) (f .scan)) → x ≡ y
+    lead-on-one many to = one-result siftingOf sifting-apart
 
     pub filter-current-one : (x y : Answer) → saysAnswer x ≡ filterCurrentOf f → saysAnswer y ≡ filterCurrentOf f → x ≡ y
     filter-current-one = one-result saysAnswer answer-apart
