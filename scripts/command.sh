@@ -29,26 +29,34 @@ loftsplice find FILE --numbers NUMBERS [--filled | --count]
 loftsplice build NUMBERS
     the record of the column that is built from the lines of the file NUMBERS, at most
     524,288, each a number, in runs as long as they get: to standard output
+loftsplice import BITMAP COUNT OUT
+    the record of the column of the records that are present in the file BITMAP, among
+    COUNT records, at most 524,288: record i is bit i mod 8 of byte i / 8, lowest first
+loftsplice export FILE COUNT OUT
+    the bitmap of a column that rises, of COUNT records
 loftsplice help | --help | -h
 loftsplice --version
 
-FILE holds one column as a stored record, and nothing else. For FILE or NUMBERS - is
-standard input. Options stand anywhere before a word --, their values after a space or
-after =. check, list and find take --format csv or --format json.
+FILE holds one column as a stored record, and nothing else. For FILE, NUMBERS or BITMAP
+- is standard input, for OUT standard output. The file OUT is written whole, or stays as
+it was. Options stand anywhere before a word --, their values after a space or after =.
+check, list and find take --format csv or --format json.
 
 Answers go to standard output, messages to standard error. The last line there, and the
 exit status:
     refused N NAME        N, for example 'refused 2 ENDS': the input is refused, and why;
-                          1 SHAPE: build would need over 4,096 runs;
-                          5 WINDOW: END is above the length; 7 ORDER: list, find and
-                          check --rising take elements that rise; 2, 3, 11, 12, 13: the
-                          record is damaged
+                          1 SHAPE: build or import would need over 4,096 runs;
+                          5 WINDOW: END is above the length; 7 ORDER: list, find, export
+                          and check --rising take elements that rise; 11 CUT: BITMAP has
+                          fewer bytes than COUNT records need; 14 COUNT: COUNT is above
+                          524,288; 15 RANGE: an element is not below COUNT, or below 0;
+                          else 2, 3, 11, 12, 13: the record is damaged
     usage                 64: a word is not as above; which is said
     N of M bytes used     65: the file has bytes after its record, and is not answered
     no number             65: a line of NUMBERS is none; which is said
     too many numbers      65: build holds no more than 524,288
     no file               66: a file can't be opened or read
-    not written           74: standard output takes no more
+    not written           74: standard output takes no more, or OUT can't be written
 70: the program is not there and could not be built.
 END
   told "$?"
@@ -68,8 +76,42 @@ early() {
   done
 }
 
+# The file that import and export write, their third operand; - for all else. Words are counted as the program counts them; it says where they are wrong.
+operand_out() {
+  out=- operands=0 plain=
+  case ${1-} in import | export) shift ;; *) return ;; esac
+  for word do
+    [ "$plain$word" != -- ] || { plain=yes; continue; }
+    operands=$((operands + 1))
+    [ "$operands" != 3 ] || out=$word
+  done
+}
+
+# Opens a file beside OUT, through a link beside what it names: it takes OUT's place once the call is answered, so that OUT is written whole, or stays
+# as it was. Where it can't be opened `part` is empty.
+beside() {
+  part=
+  [ ! -L "$out" ] || out=$(readlink -f -- "$out")
+  [ ! -e "$out" ] || { [ -f "$out" ] && [ -w "$out" ]; } || return
+  (set -C && : > "$out.part$$") 2>/dev/null || return
+  part=$out.part$$
+  trap 'rm -f -- "$part"' EXIT
+  trap 'exit 129' HUP
+  trap 'exit 130' INT
+  trap 'exit 143' TERM
+}
+
+# What the program says on standard error, and its status; what it writes goes to 3.
+answer() { said=$("$program" "$@" 2>&1 >&3 3>&-); status=$?; }
+
 run() {
-  { said=$("$program" "$@" 2>&1 >&3 3>&-); status=$?; } 3>&1
+  operand_out "$@"
+  if [ "$out" = - ]; then
+    answer "$@" 3>&1
+  else
+    beside
+    answer "$@" 3> "${part:-/dev/null}"
+  fi
   [ -z "$said" ] || printf '%s\n' "$said" >&2
   [ "$status" = 0 ] || exit "$status"
   last=${said##*'
@@ -81,5 +123,6 @@ run() {
     'no file') exit 66 ;;
     'not written') exit 74 ;;
   esac
+  [ "$out" = - ] || { [ -n "$part" ] && mv -f -- "$part" "$out" 2>/dev/null; } || not_written "the file $out can't be written"
   exit 0
 }

@@ -7,10 +7,14 @@ ghost use Rattle.codec.specs.Record.{recordOf};
 ghost use Rattle.importing.specs.Import.{importedColumn};
 ghost use Rattle.exporting.specs.Export.{exportedBytes};
 use crate::stored::stored;
+use asking::opening;
 use exporting::Exported;
 use exporting::export;
 use record::Written;
 use telling::printing;
+use words::arguments::natural;
+use words::places::FILE;
+use words::places::RECORDS;
 
 pub mod stored;
 
@@ -27,6 +31,25 @@ fn from_bitmap(bytes: &[u8], count: u64) {
     match stored(bytes, count, &mut out) {
         Written::Refused(why) => printing::refused(why),
         Written::Bytes(n) => put_record(&out[..n], bytes, count),
+    }
+}
+
+// A bitmap of as many records as there may be has 65,536 bytes; what a file has beyond is not read. A read that ends early may have failed, as that
+// of a folder does: one more tells.
+fn from_file(fd: i32, count: u64) {
+    let mut bytes = [0u8; 65536];
+    let n = io::read_full(fd, &mut bytes);
+    let mut next = [0u8; 1];
+    if opening::read_some(fd, &mut next) < 0 {
+        return;
+    }
+    from_bitmap(&bytes[..n], count);
+}
+
+pub fn import_file(places: &[usize; 16]) {
+    let fd = opening::open(places[FILE], false);
+    if 0 <= fd {
+        from_file(fd, natural(places[RECORDS]));
     }
 }
 

@@ -16,10 +16,9 @@ use telling::forms::lead;
 use telling::forms::next;
 use telling::forms::said;
 use telling::printing;
+use words::arguments::natural;
 use words::arguments::signed;
-use words::arguments::unsigned;
 use words::numbers::Signed;
-use words::numbers::Unsigned;
 use words::places::ABOVE;
 use words::places::BELOW;
 use words::places::END;
@@ -45,14 +44,6 @@ fn limit(inclusive: usize, exclusive: usize) -> Limit {
         return bound(BoundaryType::Exclusive, exclusive);
     }
     Limit::Free
-}
-
-// The index that argument i is.
-fn index(i: usize) -> u64 {
-    match unsigned(i) {
-        Unsigned::Not => 0,
-        Unsigned::Is(n) => n,
-    }
 }
 
 // A limit as a list of bounds.
@@ -219,7 +210,7 @@ fn window(starts: &[i64], ends: &[u64], steps: &[i16], start: usize, end: usize)
             if start == 0 {
                 return Made::Ready(scan);
             }
-            narrowed(starts, ends, steps, scan, index(start), index(end))
+            narrowed(starts, ends, steps, scan, natural(start), natural(end))
         }
     }
 }

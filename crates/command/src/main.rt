@@ -21,5 +21,9 @@ fn main() {
         building::build(&places);
         return;
     }
+    if let Command::Import = command {
+        bitmap_files::import_file(&places);
+        return;
+    }
     reading::from_file(command, &places);
 }

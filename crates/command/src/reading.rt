@@ -9,9 +9,11 @@ use libc::STDERR_FILENO;
 use record::ReadRecord;
 use record::read;
 use telling::printing;
+use words::arguments::natural;
 use words::options::Command;
 use words::places::FILE;
 use words::places::FORMAT;
+use words::places::RECORDS;
 use words::places::RISING;
 
 // The answer of a command on the column of a file. A read that ends early may have failed, as that of a folder does, and one that fills the buffer may
@@ -113,7 +115,9 @@ fn from_column(
         }
         Command::List => listing::list_window(starts, ends, steps, places),
         Command::Find => finding::find(starts, ends, steps, places),
-        Command::Build => {}
-        Command::Wrong => {}
+        Command::Export => {
+            bitmap_files::export_column(starts, ends, steps, natural(places[RECORDS]))
+        }
+        _ => {}
     }
 }

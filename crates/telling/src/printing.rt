@@ -26,7 +26,7 @@ fn reason(why: Refusal) {
         Refusal::Bounds => message(b"too many bounds, inputs or windows\n"),
         Refusal::Input => message(b"a bound's input has no value\n"),
         Refusal::Room => message(b"an output has too few places\n"),
-        Refusal::Cut => message(b"fewer than 4 bytes, or fewer than the length says\n"),
+        Refusal::Cut => message(b"fewer bytes than the length says, or than the records need\n"),
         Refusal::Kind => message(b"the kind is not 1\n"),
         Refusal::Size => message(b"the length is no record's\n"),
         Refusal::Count => message(b"there are too many records\n"),

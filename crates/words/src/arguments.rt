@@ -16,6 +16,7 @@ use crate::places::FORMAT;
 use crate::places::LINES;
 use crate::places::NUMBERS;
 use crate::places::OPERANDS;
+use crate::places::OUT;
 use crate::places::PLAIN;
 use crate::places::RISING;
 use crate::places::WANTED;
@@ -38,6 +39,14 @@ pub fn unsigned(i: usize) -> Unsigned {
     let mut buf = io::buffer();
     let n = os::arg(i, &mut buf);
     read_unsigned(&buf[..n])
+}
+
+// The same where it was read before, as every operand is that has to be a number.
+pub fn natural(i: usize) -> u64 {
+    match unsigned(i) {
+        Unsigned::Not => 0,
+        Unsigned::Is(n) => n,
+    }
 }
 
 // Notes a word that is wrong, and whether a number was wanted. Answers that it is passed over.
@@ -135,6 +144,16 @@ fn index(word: &[u8], operand: usize, i: usize, places: &mut [usize; 16]) -> usi
     }
 }
 
+// Takes the number of records, operand 1, or the file to write, operand 2.
+fn counted(word: &[u8], operand: usize, i: usize, places: &mut [usize; 16]) -> usize {
+    if operand != 2 {
+        return index(word, operand, i, places);
+    }
+    places[OUT] = i;
+    places[OPERANDS] = 3;
+    1
+}
+
 // Takes a word that is no option: the file first.
 fn operand(command: Command, word: &[u8], i: usize, places: &mut [usize; 16]) -> usize {
     let operands = places[OPERANDS];
@@ -146,6 +165,8 @@ fn operand(command: Command, word: &[u8], i: usize, places: &mut [usize; 16]) ->
     match command {
         Command::Find => asked(word, i, places),
         Command::List => index(word, operands, i, places),
+        Command::Import => counted(word, operands, i, places),
+        Command::Export => counted(word, operands, i, places),
         _ => wrong(i, 0, places),
     }
 }
@@ -211,6 +232,12 @@ fn named(word: &[u8]) -> Command {
     }
     if check::same(word, b"build") {
         return Command::Build;
+    }
+    if check::same(word, b"import") {
+        return Command::Import;
+    }
+    if check::same(word, b"export") {
+        return Command::Export;
     }
     Command::Wrong
 }

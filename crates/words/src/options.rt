@@ -21,6 +21,8 @@ pub enum Command {
     List,
     Find,
     Build,
+    Import,
+    Export,
     Wrong,
 }
 
@@ -103,16 +105,25 @@ fn own_option(command: Command, name: &[u8]) -> usize
         Command::Check => checking_option(name),
         Command::List => listing_option(name),
         Command::Find => finding_option(name),
-        Command::Build => 0,
-        Command::Wrong => 0,
+        _ => 0,
     }
 }
 
-// The option of this name, by its place; 0 where the command has none. A record has one format.
+// Whether a command writes a text. A record and a bitmap have one format.
+fn tells(command: Command) -> bool {
+    match command {
+        Command::Check => true,
+        Command::List => true,
+        Command::Find => true,
+        _ => false,
+    }
+}
+
+// The option of this name, by its place; 0 where the command has none.
 pub fn option_of(command: Command, name: &[u8]) -> usize
     ensures { λ r. ⌜ r < 12 ⌝ }
 {
-    if let Command::Build = command {
+    if !tells(command) {
         return 0;
     }
     if check::same(name, b"--format") {

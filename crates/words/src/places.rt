@@ -1,12 +1,16 @@
 // Where the words stand that the command is called with: for each thing that can be asked for an argument's number, 0 where it is not asked for.
 // An array of numbers, since it is filled word by word and lent to each function that reads one.
 
-// operands: the record's file, and of `list` the window
+// operands: the file that is read; of `list` the window; of `import` and `export` how many records there are, and the file to write
 pub const FILE: usize = 0;
 
 pub const START: usize = 1;
 
 pub const END: usize = 2;
+
+pub const RECORDS: usize = 1;
+
+pub const OUT: usize = 2;
 
 // options with a value: where the value stands
 pub const FROM: usize = 3;

@@ -20,6 +20,8 @@ fn incomplete(command: Command, operands: usize, numbers: usize) -> bool {
     match command {
         Command::List => operands == 2,
         Command::Find => operands == 1 && numbers == 0,
+        Command::Import => operands < 3,
+        Command::Export => operands < 3,
         _ => false,
     }
 }
