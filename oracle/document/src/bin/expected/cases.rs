@@ -1,5 +1,5 @@
 //! The cases of scripts/command-test: the files, the calls that the model answers, and those that are wrong.
-use crate::command::{answer, built, Stored, MOST};
+use crate::command::{bytes, Stored, MOST};
 use crate::samples::{bark, damaged, record, written};
 use crate::{d, put};
 use document::calls::Runs;
@@ -9,7 +9,7 @@ use std::path::Path;
 const CALLS: &str = include_str!("command.calls");
 
 /// Calls with a wrong word, or one too few: the words, and which of them is wrong (from 1 on; one more than there are: it is missing).
-const USAGE: [(&str, usize); 61] = [
+const USAGE: [(&str, usize); 76] = [
     ("", 1),
     ("check", 2),
     ("build", 2),
@@ -18,6 +18,21 @@ const USAGE: [(&str, usize); 61] = [
     ("build few --format csv", 3),
     ("build few --count", 3),
     ("build --numbers few", 2),
+    ("import", 2),
+    ("import bits", 3),
+    ("import bits 10", 4),
+    ("import bits x -", 3),
+    ("import bits -1 -", 3),
+    ("import bits 18446744073709551616 -", 3),
+    ("import bits 10 - -", 5),
+    ("import bits 10 made more", 5),
+    ("import bits 10 --out", 4),
+    ("import bits 10 - --format csv", 5),
+    ("export", 2),
+    ("export bark 201", 4),
+    ("export bark 2.5 made", 3),
+    ("export bark 201 - --rising", 5),
+    ("export bark 201 -- --made more", 6),
     ("list", 2),
     ("find", 2),
     ("find bark", 3),
@@ -129,6 +144,13 @@ fn files() -> Vec<(&'static str, Vec<u8>)> {
         ("pairs", (0..8192).map(|k| format!("{}\n", k / 2 * 40_000 + k % 2)).collect::<String>().into_bytes()),
         ("held", b"7\n".repeat(MOST)),
         ("beyond", [&b"7\n".repeat(MOST)[..], b"7"].concat()),
+        ("bits", vec![0xE5, 0x01]),
+        ("padded", vec![0xE5, 0xFD, 0, 0, 0, 0, 0, 0xFF]),
+        ("ones", vec![0xFF; 65_536]),
+        ("more", vec![0xFF; 65_537]),
+        ("alternate", vec![0x55; 65_536]),
+        // two records a run: 4,096 runs in 2,731 bytes
+        ("irregular", vec![0x13; 65_536]),
         ("late", (0..2000).map(|k| format!("{k}\n")).chain(["x\n".into()]).collect::<String>().into_bytes()),
     ]
 }
@@ -145,12 +167,7 @@ pub fn cases(folder: &Path) {
         let (line, input) = line.split_once(" < ").map_or((line, vec![]), |(line, name)| (line, held(name)));
         let words = split(line);
         let read = |name: &str| if name == "-" { input.clone() } else { held(name) };
-        let (answer, said) = if words[0] == "build" {
-            built(&read(&words[words.len() - 1]))
-        } else {
-            let ((out, last, status), said) = answer(&words, &read);
-            ((out.into_bytes(), last, status), said)
-        };
+        let (answer, said) = bytes(&words, &read);
         rows.push((words, input, answer, said));
     }
     for (line, wrong) in USAGE {
@@ -173,12 +190,14 @@ pub fn cases(folder: &Path) {
 }
 
 /// Files that are not there, a folder, no name, and names that are too long.
-fn without_file() -> [Vec<String>; 11] {
+fn without_file() -> [Vec<String>; 14] {
     let check = |name: &str| vec!["check".to_string(), name.to_string()];
     let find = ["find", "nofile", "3"].map(String::from).to_vec();
     let list = ["list", "nofile"].map(String::from).to_vec();
     let numbers = ["find", "bark", "--numbers", "nofile", "--format=csv"].map(String::from).to_vec();
     let folder = ["find", "bark", "--numbers=."].map(String::from).to_vec();
     let build = |name: &str| vec!["build".to_string(), name.to_string()];
-    [build("nofile"), build("."), numbers, folder, check("nofile"), list, find, check("."), check(""), check(&"x".repeat(300)), check(&"x".repeat(5000))]
+    let bitmap = |mode: &str, name: &str| [mode, name, "8", "-"].map(String::from).to_vec();
+    let [import, directory, export] = [bitmap("import", "nofile"), bitmap("import", "."), bitmap("export", "nofile")];
+    [import, directory, export, build("nofile"), build("."), numbers, folder, check("nofile"), list, find, check("."), check(""), check(&"x".repeat(300)), check(&"x".repeat(5000))]
 }

@@ -4,14 +4,14 @@ use crate::{ask, root};
 use document::calls::{Bound, Call, Listing, Runs, Said};
 use document::model::{Column, Session};
 
-const NAMES: [&str; 13] = [
-    "SHAPE", "ENDS", "REACH", "INDEX", "WINDOW", "SCAN", "ORDER", "BOUNDS", "INPUT", "ROOM", "CUT", "KIND", "SIZE",
+const NAMES: [&str; 15] = [
+    "SHAPE", "ENDS", "REACH", "INDEX", "WINDOW", "SCAN", "ORDER", "BOUNDS", "INPUT", "ROOM", "CUT", "KIND", "SIZE", "COUNT", "RANGE",
 ];
 
 /// Standard output, the last line on standard error, the exit status.
 pub type Answer = (String, String, u32);
 
-/// The same where standard output is a record.
+/// The same where standard output is a record, or a bitmap.
 pub type Stored = (Vec<u8>, String, u32);
 
 /// How many numbers `build` holds.
@@ -77,19 +77,23 @@ fn refused(out: String, number: u32) -> Answer {
     (out, format!("refused {number} {}", NAMES[number as usize - 1]), number)
 }
 
+/// The column of a file, which holds one record; or the answer where there is none.
+fn opened(data: &[u8]) -> Result<Runs, (Answer, String)> {
+    match ask(&Runs::default(), Call::Read(data.to_vec(), [4096; 3])) {
+        Said::Read { used, runs } if used as usize == data.len() => Ok(runs),
+        Said::Read { used, .. } => Err(((String::new(), format!("{used} of {} bytes used", data.len()), 65), "bytes follow it".into())),
+        Said::Refused(number) => Err((refused(String::new(), number), String::new())),
+        other => unreachable!("{other} of a reading"),
+    }
+}
+
 /// The answer to a call, and words that standard error has to have.
 pub fn answer(words: &[String], read: &dyn Fn(&str) -> Vec<u8>) -> (Answer, String) {
     let asked = Asked::new(&words[1..]);
-    let data = read(&asked.operands[0]);
-    let (used, runs) = match ask(&Runs::default(), Call::Read(data.clone(), [4096; 3])) {
-        Said::Read { used, runs } => (used, runs),
-        Said::Refused(number) => return (refused(String::new(), number), String::new()),
-        other => unreachable!("{other} of a reading"),
+    let runs = match opened(&read(&asked.operands[0])) {
+        Ok(runs) => runs,
+        Err(ended) => return ended,
     };
-    // A file holds one record.
-    if (used as usize) < data.len() {
-        return ((String::new(), format!("{used} of {} bytes used", data.len()), 65), "bytes follow it".into());
-    }
     match words[0].as_str() {
         "check" => (checked(&runs, &asked), String::new()),
         "list" => (listed(&runs, &asked).unwrap_or_else(|number| refused(String::new(), number)), String::new()),
@@ -219,8 +223,42 @@ fn row(k: i64, index: Option<u64>, format: Format, filled: bool) -> Option<Strin
     }
 }
 
+/// What a call writes that gives bytes.
+fn given(((out, last, status), said): (Answer, String)) -> (Stored, String) {
+    ((out.into_bytes(), last, status), said)
+}
+
+/// Any call, by its first word.
+pub fn bytes(words: &[String], read: &dyn Fn(&str) -> Vec<u8>) -> (Stored, String) {
+    match words[0].as_str() {
+        "build" => built(&read(&Asked::new(&words[1..]).operands[0])),
+        "import" | "export" => bitmap(words, read),
+        _ => given(answer(words, read)),
+    }
+}
+
+/// `import BITMAP COUNT -`, `export FILE COUNT -`: the record, or the bitmap, and words that standard error has to have.
+fn bitmap(words: &[String], read: &dyn Fn(&str) -> Vec<u8>) -> (Stored, String) {
+    let asked = Asked::new(&words[1..]);
+    let (data, count) = (read(&asked.operands[0]), asked.operands[1].parse().expect("a number"));
+    let said = if words[0] == "import" {
+        ask(&Runs::default(), Call::Import(data, count, [4096; 3]))
+    } else {
+        match opened(&data) {
+            Ok(runs) => ask(&runs, Call::Export(count, 65_536)),
+            Err(ended) => return given(ended),
+        }
+    };
+    match said {
+        Said::Imported { runs, .. } => ((written(&runs), String::new(), 0), String::new()),
+        Said::Written(bytes) => ((bytes, String::new(), 0), String::new()),
+        Said::Refused(number) => given((refused(String::new(), number), String::new())),
+        other => unreachable!("{other} of a bitmap"),
+    }
+}
+
 /// `build FILE`: the record of the column that is built from the numbers, by document 02's rule, and words that standard error has to have.
-pub fn built(text: &[u8]) -> (Stored, String) {
+fn built(text: &[u8]) -> (Stored, String) {
     let (values, wrong) = numbers(text);
     if values.len() > MOST {
         return ((vec![], "too many numbers".into(), 65), "over 524,288 numbers".into());
@@ -228,23 +266,9 @@ pub fn built(text: &[u8]) -> (Stored, String) {
     if let Some((line, text)) = wrong {
         return ((vec![], "no number".into(), 65), format!("line {line}, '{text}', is no number"));
     }
-    let runs = ruled(&values);
-    if runs.len() > 4096 {
-        return ((vec![], "refused 1 SHAPE".into(), 1), "over 4,096 runs".into());
+    match ask(&Runs::default(), Call::Build(values, [4096; 3])) {
+        Said::Built(runs) => ((written(&runs), String::new(), 0), String::new()),
+        Said::Refused(number) => given((refused(String::new(), number), "over 4,096 runs".into())),
+        other => unreachable!("{other} of a building"),
     }
-    ((written(&Runs::of(&runs)), String::new(), 0), String::new())
-}
-
-/// "A run starts with one value and step 0; its second value joins if the difference has a step, which becomes the run's; later values join while the
-/// difference equals it; otherwise a new run starts."
-fn ruled(values: &[i64]) -> Vec<(i64, i16, u64)> {
-    let mut runs: Vec<(i64, i16, u64)> = vec![];
-    for (i, value) in values.iter().enumerate() {
-        let step = i.checked_sub(1).and_then(|j| i16::try_from(i128::from(*value) - i128::from(values[j])).ok());
-        match (runs.last_mut(), step) {
-            (Some(run), Some(step)) if run.2 == 1 || run.1 == step => *run = (run.0, step, run.2 + 1),
-            _ => runs.push((*value, 0, 1)),
-        }
-    }
-    runs
 }
