@@ -24,7 +24,7 @@ use Rattle.build.specs.Follows.{Regular, lastOf}
 use Rattle.build.proofs.Rule.{joins-second, joins-later, from-parted, zero-fits}
 use Rattle.build.proofs.Unique.{run-open}
 use Rattle.importing.specs.Import.{recordsIn}
-use Rattle.importing.specs.Inner.{Strip, Stands, First}
+use Rattle.importing.specs.Inner.{Strip, Stands, First, Going}
 use Rattle.importing.proofs.Records.{records-here, records-none, records-skip, next-from, next-to, next-nowhere, next-holds, next-stands, next-records}
 
 step-next : (at by more : ℕ) → at + by * suc more ≡ at + by * more + by
@@ -169,12 +169,6 @@ module _ (p : ℕ → Bool) (count at : ℕ) where
 
 -- ---- a run of two or more, as it is followed
 
-pub record Going (p : ℕ → Bool) (count at by last n : ℕ) : Type 0 where
-  pub two : 2 ≤ n
-  pub is-last : last ≡ at + by * (n - 1)
-  pub inside : last < count
-  pub strip : Strip p count at by (n - 1)
-
 module _ (p : ℕ → Bool) (count at by : ℕ) (some : 0 < by) where
   pub going-start : (second : ℕ) → at < count → p at ≡ true → second ≡ firstFrom p (at + 1) count → second < count → second ≡ at + by → Going p count at by second 2
   going-start second l h e m s =
@@ -200,6 +194,10 @@ module _ (p : ℕ → Bool) (count at by : ℕ) (some : 0 < by) where
           strip = rw k (strip-more p count at by (n - 1) (g .strip) next (omega (arith, s, from, g .is-last)) m (next-holds p (last + 1) count next (omega (arith, g .inside)) e m) some
               (λ i u w. next-nowhere p (last + 1) count next (omega (arith, g .inside)) e i (omega (arith, g .is-last)) w));
         }
+
+    -- no more of them than there are numbers up to the last
+    pub going-few : n ≤ last + 1
+    going-few = omega (arith, g .two, g .is-last, at-least by (n - 1) some)
 
     pub going-first : by ≤ 32767 → (next < count → next - last ≡ by → ⊥) → First p count at by n next
     going-first small parted =

@@ -1,5 +1,5 @@
 -- What the inner functions of the import tell each other. No promise of a public call names it. Assumes nothing.
-use Prim.Native.Nat.{ℕ, suc, _+_, _*_, _<_, _≤_}
+use Prim.Native.Nat.{ℕ, suc, _+_, _-_, _*_, _<_, _≤_}
 use mathlib.Core.Path.{_≡_}
 use mathlib.Core.Bool.{Bool, true}
 use mathlib.Core.List.{List, _∷_, _++_}
@@ -26,6 +26,13 @@ pub record First (p : ℕ → Bool) (count at step n next : ℕ) : Type 0 where
   pub some : 0 < n
   pub stands : Stands p count next
   pub small : step ≤ 32767
+
+-- a run of two or more, as it is followed: so far its last record is this, of so many
+pub record Going (p : ℕ → Bool) (count at by last n : ℕ) : Type 0 where
+  pub two : 2 ≤ n
+  pub is-last : last ≡ at + by * (n - 1)
+  pub inside : last < count
+  pub strip : Strip p count at by (n - 1)
 
 -- a place for each run in the three arrays
 abbrev pub RoomFor : RefT (List ℕ) → ℕ → RefT (List ℤ) → RefT (List ℕ) → RefT (List ℤ) → Type 0

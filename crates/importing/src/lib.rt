@@ -11,7 +11,7 @@ ghost use Rattle.bits.specs.Bitmap.{present};
 ghost use Rattle.build.specs.Rule.{runsOf};
 ghost use Rattle.importing.specs.Import.{presentIn, importedColumn};
 ghost use Rattle.importing.specs.Says.{saysImported, importing};
-ghost use Rattle.importing.specs.Inner.{First, RoomFor};
+ghost use Rattle.importing.specs.Inner.{First, Going, RoomFor};
 use bits::count_present;
 use bits::next_absent;
 use bits::next_present;
@@ -46,6 +46,35 @@ fn run_of_ones(bytes: &[u8], at: usize, count: usize) -> Run
     }
 }
 
+// How far a run that has begun goes: its last record so far, and the number of its records.
+struct Far {
+    last: usize,
+    n: usize,
+}
+
+// Records a step apart, as far as windows tell them. Where the next one lies is not read off the window but added up, so that no turn waits for another.
+fn stride(bytes: &[u8], at: usize, second: usize, count: usize) -> Far
+    requires { ⌜ (at < second) × (second < count) × (second - at ≤ 32767) × (count ≤ 524288) ⌝ }
+    requires { ⌜ (present (now bytes) at ≡ true) × (second ≡ firstFrom (present (now bytes)) (at + 1) count) ⌝ }
+    ensures { λ r. ⌜ Going (present (now (bytes .entry))) count at (second - at) (r .last) (r .n) ⌝ }
+{
+    let by = second - at;
+    let mut last = second;
+    let mut n: usize = 2;
+    while last + 65 <= count {
+        let ahead = window(bytes, last + 1, true);
+        if ahead == 0 {
+            return Far { last: last, n: n };
+        }
+        if (u64::trailing_zeros(ahead) as usize) + 1 != by {
+            return Far { last: last, n: n };
+        }
+        last += by;
+        n += 1;
+    }
+    Far { last: last, n: n }
+}
+
 // The run that begins at a record and has a second.
 fn run_of_steps(bytes: &[u8], at: usize, second: usize, count: usize) -> Run
     requires { ⌜ (at < second) × (second < count) × (second - at ≤ 32767) × (count ≤ 524288) ⌝ }
@@ -53,9 +82,10 @@ fn run_of_steps(bytes: &[u8], at: usize, second: usize, count: usize) -> Run
     ensures { λ r. ⌜ First (present (now (bytes .entry))) count at (r .step) (r .n) (r .next) ⌝ }
 {
     let by = second - at;
-    let mut last = second;
-    let mut n: usize = 2;
-    let mut next = next_present(bytes, second + 1, count);
+    let far = stride(bytes, at, second, count);
+    let mut last = far.last;
+    let mut n = far.n;
+    let mut next = next_present(bytes, last + 1, count);
     while next < count {
         if next - last != by {
             return Run {

@@ -5,9 +5,9 @@ use mathlib.Core.Bool.{Bool}
 use native.Mathlib.Omega.{arith}
 use Rattle.ranges.specs.Ranges.{firstFrom}
 use Rattle.bits.specs.Bitmap.{present}
-use Rattle.importing.specs.Inner.{First}
+use Rattle.importing.specs.Inner.{First, Going}
 use Rattle.importing.proofs.Records.{next-from, next-to}
-use Rattle.importing.proofs.Strips.{Going, going-start, going-more, going-first}
+use Rattle.importing.proofs.Strips.{going-more, going-few, going-first}
 use borrow.Author.Needs.{needs}
 use Rattle.importing.proofs.run_of_steps.Statement.{statement}
 use Rattle.importing.proofs.run_of_steps.Tie as tie
@@ -20,7 +20,7 @@ abbrev μ-loop : tie.MeasureT-loop
 μ-loop bytes at second count by last₀ n₀ next₀ last n next = count - next
 
 abbrev start : tie.At-loop Inv-loop μ-loop → tie.Start Inv-loop μ-loop
-start c = c .before .before .before
+start c = let at-stride = c .before .before in at-stride .before .before
 
 module _ (s : tie.Start Inv-loop μ-loop) where
   abbrev p : ℕ → Bool
@@ -35,19 +35,24 @@ module _ (s : tie.Start Inv-loop μ-loop) where
 sub-by : tie.Need-sub-by Inv-loop μ-loop
 sub-by c = omega arith
 
+stride-requires : tie.Need-stride-requires Inv-loop μ-loop
+stride-requires c κs = search needs
+
 add-next-present : tie.Need-add-next-present Inv-loop μ-loop
-add-next-present c = omega arith
+add-next-present c = omega (arith, c .stride .ensures .inside)
 
 next-present-requires : tie.Need-next-present-requires Inv-loop μ-loop
 next-present-requires c κs = search needs
 
 loop-holds : tie.Need-loop-holds Inv-loop μ-loop
 loop-holds c =
-    let s = c .before .before in (
-      going-start (p s) (s .args .count) (s .args .at) (by s) (some s) (s .args .second) (omega arith) (s .pre .1 .0) (s .pre .1 .1) (omega arith) (omega arith),
+    let f = c .before in
+    let s = f .before .before in
+    let last = f .stride .result .last in (
+      f .stride .ensures,
       c .next-present .ensures,
-      omega (arith, next-from (p s) (s .args .second + 1) (s .args .count) (c .next-present .result) (omega arith) (c .next-present .ensures)),
-      omega arith,
+      omega (arith, next-from (p s) (last + 1) (s .args .count) (c .next-present .result) (omega (arith, f .stride .ensures .inside)) (c .next-present .ensures)),
+      going-few (p s) (s .args .count) (s .args .at) (by s) (some s) last (f .stride .result .n) (c .next-present .result) (f .stride .ensures) (c .next-present .ensures),
     )
 
 sub-if1 : tie.Need-sub-if1 Inv-loop μ-loop
@@ -98,4 +103,4 @@ returns-2 c =
     (going-first (p s) (s .args .count) (s .args .at) (by s) (some s) (l .loop .last) (l .loop .n) (l .loop .next) (l .loop .inv .0) (l .loop .inv .1) (omega arith) (λ m. absurd (omega arith)))
 
 pub run-of-steps-spec : {M : Type 1} → statement M
-run-of-steps-spec = tie.close (tie.spec Inv-loop μ-loop sub-by add-next-present next-present-requires loop-holds sub-if1 returns add-n add-next-present-2 next-present-requires-2 loop-less loop-again returns-2)
+run-of-steps-spec = tie.close (tie.spec Inv-loop μ-loop sub-by stride-requires add-next-present next-present-requires loop-holds sub-if1 returns add-n add-next-present-2 next-present-requires-2 loop-less loop-again returns-2)
