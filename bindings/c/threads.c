@@ -22,17 +22,20 @@ static void *walk(void *given) {
     work *mine = given;
     for (int round = 0; round < rounds; round++) {
         loftsplice_scan scan = loftsplice_scan_new(COLUMN).scan;
-        int64_t out[length];
+        loftsplice_filter filter = loftsplice_filter_new(scan, LOFTSPLICE_INCLUSIVE_WINS, NULL, 0, NULL, 0, NULL, 0, NULL, 0).filter;
+        int64_t out[length], sifted[length];
         uint64_t from = 0, to = length, count = 0;
         loftsplice_listed listed = loftsplice_list(COLUMN, &from, 1, &to, 1, LOFTSPLICE_INCLUSIVE_WINS, NULL, 0, NULL, 0, NULL, 0, NULL, 0, out, length,
             &count, 1);
         mine->failed |= listed.refusal != 0 || listed.sum != length || count != length;
+        loftsplice_filter_ran ran = loftsplice_filter_next_run(filter, COLUMN, NULL, 0, NULL, 0, NULL, 0, NULL, 0, NULL, 0, NULL, 0, sifted, length);
+        mine->failed |= ran.refusal != 0 || ran.count != length;
         for (int i = 0; i < length; i++) {
             int64_t element = 100 * (i / 8) + 10 * (i % 8);
             loftsplice_moved moved = i % 2 == 0 ? loftsplice_scan_next(scan, COLUMN) : loftsplice_scan_seek(scan, COLUMN, element - 5);
             scan = moved.scan;
             mine->answers++;
-            mine->failed |= moved.answer.refusal != 0 || moved.answer.value != element || out[i] != element;
+            mine->failed |= moved.answer.refusal != 0 || moved.answer.value != element || out[i] != element || sifted[i] != element;
         }
     }
     return NULL;
