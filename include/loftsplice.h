@@ -15,8 +15,8 @@
  * Threads: the library keeps nothing between calls, has no data of its own that is written, and writes into the lists that are handed over for it and
  * nowhere else. So any number of threads may call at once, also on one column, as long as nobody writes to its lists meanwhile.
  *
- * Cost: each call's comment ends with it. R is the number of runs, W of windows, T of targets, V of values to build from, N of elements written; bounds
- * and inputs, of which there are few, count as constant. The O(R) is the check of the whole column that each call on one begins with. The costs are read off the code; answers are proved.
+ * Cost: each call's comment ends with it. R is the number of runs, W of windows, T of targets, V of values to build from, N of elements written, B of a
+ * bitmap's bytes, E of a column's elements; bounds and inputs, of which there are few, count as constant. The O(R) is the check of the whole column that each call on one begins with. The costs are read off the code; answers are proved.
  */
 #ifndef LOFTSPLICE_H
 #define LOFTSPLICE_H
@@ -39,26 +39,32 @@ extern "C" {
 #define LOFTSPLICE_MAX_BOUNDS 16                     /* bounds in a list: LOFTSPLICE_BOUNDS */
 #define LOFTSPLICE_MAX_INPUTS 8                      /* inputs: LOFTSPLICE_BOUNDS */
 #define LOFTSPLICE_MAX_WINDOWS 256                   /* windows of a listing: LOFTSPLICE_BOUNDS */
+#define LOFTSPLICE_MAX_RECORDS 524288                /* records of a bitmap: LOFTSPLICE_COUNT */
 
 /* ---- numbers */
 
 /* Refusals. Each call's line says which it gives, in the order in which they are tried. */
 enum {
-    LOFTSPLICE_SHAPE = 1,   /* list lengths of the column differ, or over LOFTSPLICE_MAX_RUNS runs; build: that many runs are needed, or over
+    LOFTSPLICE_SHAPE = 1,   /* list lengths of the column differ, or over LOFTSPLICE_MAX_RUNS runs; build, import: that many runs are needed; build: over
                              * LOFTSPLICE_MAX_ELEMENTS values */
     LOFTSPLICE_ENDS = 2,    /* an end is not above the one before (the first: above 0), or is over LOFTSPLICE_MAX_ELEMENTS */
     LOFTSPLICE_REACH = 3,   /* a run's last element is outside i64 */
     LOFTSPLICE_INDEX = 4,   /* element asked at index >= length; place asked above length */
     LOFTSPLICE_WINDOW = 5,  /* window end above length */
     LOFTSPLICE_SCAN = 6,    /* the scan's window end is above length, its index is outside its window, or it does not carry the element that it is at */
-    LOFTSPLICE_ORDER = 7,   /* seek, run of seeks, filter or listing over a window that doesn't rise */
+    LOFTSPLICE_ORDER = 7,   /* seek, run of seeks, filter or listing over a window that doesn't rise; export of a column that doesn't */
     LOFTSPLICE_BOUNDS = 8,  /* over LOFTSPLICE_MAX_BOUNDS bounds in a list, over LOFTSPLICE_MAX_INPUTS inputs; over LOFTSPLICE_MAX_WINDOWS windows, or
                              * window lists of unequal length */
     LOFTSPLICE_INPUT = 9,   /* Before only: a variable bound names an input that isn't there or has no value */
     LOFTSPLICE_ROOM = 10,   /* an output has fewer places than the answer needs */
-    LOFTSPLICE_CUT = 11,    /* record: fewer than 4 bytes, or fewer than the length says */
+    LOFTSPLICE_CUT = 11,    /* record: fewer than 4 bytes, or fewer than the length says; bitmap: fewer bytes than the count needs */
     LOFTSPLICE_KIND = 12,   /* record: kind is not 1 */
     LOFTSPLICE_SIZE = 13,   /* record: length under 2 or over LOFTSPLICE_MAX_RECORD - 4, or length minus 2 no multiple of 14 */
+    LOFTSPLICE_COUNT = 14,  /* bitmap: over LOFTSPLICE_MAX_RECORDS records */
+    LOFTSPLICE_RANGE = 15,  /* export: an element that is no record number */
+    LOFTSPLICE_PROFILE = 16, /* given by no call yet */
+    LOFTSPLICE_FALLING = 17, /* given by no call yet */
+    LOFTSPLICE_TOTAL = 18,  /* given by no call yet */
     LOFTSPLICE_FORM = 100   /* a number that is no state, kind, mode or found, or two lists that belong together and differ in length */
 };
 
@@ -79,6 +85,11 @@ static inline const char *loftsplice_refusal_name(uint32_t number) {
     case LOFTSPLICE_CUT: return "CUT";
     case LOFTSPLICE_KIND: return "KIND";
     case LOFTSPLICE_SIZE: return "SIZE";
+    case LOFTSPLICE_COUNT: return "COUNT";
+    case LOFTSPLICE_RANGE: return "RANGE";
+    case LOFTSPLICE_PROFILE: return "PROFILE";
+    case LOFTSPLICE_FALLING: return "FALLING";
+    case LOFTSPLICE_TOTAL: return "TOTAL";
     case LOFTSPLICE_FORM: return "FORM";
     default: return "unknown";
     }
@@ -240,6 +251,19 @@ typedef struct loftsplice_built {
     uint64_t runs;
 } loftsplice_built;
 
+/* The run count, and how many records are present. */
+typedef struct loftsplice_imported {
+    uint32_t refusal;
+    uint64_t runs;
+    uint64_t ones;
+} loftsplice_imported;
+
+/* The number of bytes written. */
+typedef struct loftsplice_exported {
+    uint32_t refusal;
+    uint64_t bytes;
+} loftsplice_exported;
+
 /* ---- layout: these are the sizes and places that the library has (x86-64 Linux). Where a compiler lays a struct out otherwise, it fails here: by a
  * static assertion since C11 and C++11, by an array of a size below 0 before. */
 
@@ -287,6 +311,8 @@ LOFTSPLICE_LAYOUT_2(loftsplice_listed, 16, refusal, 0, sum, 8);
 LOFTSPLICE_LAYOUT_3(loftsplice_read, 24, refusal, 0, runs, 8, used, 16);
 LOFTSPLICE_LAYOUT_2(loftsplice_written, 16, refusal, 0, bytes, 8);
 LOFTSPLICE_LAYOUT_2(loftsplice_built, 16, refusal, 0, runs, 8);
+LOFTSPLICE_LAYOUT_3(loftsplice_imported, 24, refusal, 0, runs, 8, ones, 16);
+LOFTSPLICE_LAYOUT_2(loftsplice_exported, 16, refusal, 0, bytes, 8);
 
 #undef LOFTSPLICE_LAYOUT_HOLDS
 #undef LOFTSPLICE_LAYOUT_SIZE
@@ -436,6 +462,20 @@ loftsplice_read loftsplice_read_record(const uint8_t *bytes, size_t bytes_len, i
 /* Writes a column's record into the first places of out; or refused 1, 2, 3, 10, and then nothing is written. O(R). */
 loftsplice_written loftsplice_write_record(const int64_t *starts, size_t starts_len, const uint64_t *ends, size_t ends_len, const int16_t *steps,
     size_t steps_len, uint8_t *out, size_t out_len);
+
+/* ---- presence bitmaps, as Apache Arrow has them: record i is bit i mod 8 of byte i / 8, lowest bit first, 1 for present. A bitmap of `count` records
+ * takes (count + 7) / 8 bytes. */
+
+/* The column of the record numbers that are present, into the first places of the three lists, which may differ in length; a run starts with one number
+ * and step 0, the next joins if it is a step away, later ones while they are that step apart. Bits past the count, and bytes beyond, are not looked at;
+ * or refused 14, 11, 1, 10. O(B + E). */
+loftsplice_imported loftsplice_import(const uint8_t *bytes, size_t bytes_len, uint64_t count, int64_t *starts, size_t starts_len, uint64_t *ends,
+    size_t ends_len, int16_t *steps, size_t steps_len);
+
+/* The bitmap of a rising column, into the first bytes of out: each is written whole, with zeros past the count, and none beyond is; or refused 14, 1, 2, 3,
+ * 7, 15, 10. Importing it gives the same elements. O(R + B + E). */
+loftsplice_exported loftsplice_export(const int64_t *starts, size_t starts_len, const uint64_t *ends, size_t ends_len, const int16_t *steps,
+    size_t steps_len, uint64_t count, uint8_t *out, size_t out_len);
 
 #ifdef __cplusplus
 }

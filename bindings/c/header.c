@@ -54,6 +54,14 @@ static void column_limits(void) {
     HOLDS(check(1) == LOFTSPLICE_ENDS);
 }
 
+static void bitmap_limits(void) {
+    static uint8_t bytes[LOFTSPLICE_MAX_RECORDS / 8];
+    HOLDS(loftsplice_import(bytes, sizeof bytes, LOFTSPLICE_MAX_RECORDS, starts, 0, ends, 0, steps, 0).refusal == 0);
+    HOLDS(loftsplice_import(bytes, sizeof bytes, LOFTSPLICE_MAX_RECORDS + 1, starts, 0, ends, 0, steps, 0).refusal == LOFTSPLICE_COUNT);
+    HOLDS(loftsplice_export(starts, 0, ends, 0, steps, 0, LOFTSPLICE_MAX_RECORDS, bytes, sizeof bytes).bytes == sizeof bytes);
+    HOLDS(loftsplice_export(starts, 0, ends, 0, steps, 0, LOFTSPLICE_MAX_RECORDS + 1, bytes, sizeof bytes).refusal == LOFTSPLICE_COUNT);
+}
+
 static void other_limits(void) {
     static int64_t values[over_bounds];
     static uint8_t kinds[over_bounds], found[over_inputs];
@@ -75,7 +83,8 @@ static void other_limits(void) {
 
 #define NAME(word) {LOFTSPLICE_##word, #word}
 static const struct { uint32_t number; const char *name; } names[] = {{0, "accepted"}, NAME(SHAPE), NAME(ENDS), NAME(REACH), NAME(INDEX), NAME(WINDOW),
-    NAME(SCAN), NAME(ORDER), NAME(BOUNDS), NAME(INPUT), NAME(ROOM), NAME(CUT), NAME(KIND), NAME(SIZE), NAME(FORM)};
+    NAME(SCAN), NAME(ORDER), NAME(BOUNDS), NAME(INPUT), NAME(ROOM), NAME(CUT), NAME(KIND), NAME(SIZE), NAME(COUNT), NAME(RANGE),
+    NAME(PROFILE), NAME(FALLING), NAME(TOTAL), NAME(FORM)};
 
 static void refusal_names(void) {
     for (uint32_t number = 0; number < 1000; number++) {
@@ -121,6 +130,7 @@ static void readme(void) {
 
 int main(void) {
     column_limits();
+    bitmap_limits();
     other_limits();
     refusal_names();
     alignment();

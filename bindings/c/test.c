@@ -1098,6 +1098,56 @@ static void builds(void) {
     SAME(r.refusal, 0), SAME(r.runs, LOFTSPLICE_MAX_RUNS), SAME(e[LOFTSPLICE_MAX_RUNS - 1], LOFTSPLICE_MAX_RUNS), SAME(s[1], 100000), SAME(t[1], 0);
 }
 
+/* Document 02, request 3: a bitmap of ten records with 0, 2, 5, 6, 7, 8 present, as another writer of the Arrow family stores it. */
+static void bitmaps(void) {
+    static const uint8_t bytes[] = {0xE5, 0xFD};
+    int64_t starts[4] = {7, 7, 7, 7};
+    uint64_t ends[4] = {7, 7, 7, 7};
+    int16_t steps[4] = {7, 7, 7, 7};
+    /* bit 10 and those above it are past the count; 0 2 | 5 6 7 8 */
+    loftsplice_imported in = loftsplice_import(bytes, 2, 10, starts, 4, ends, 4, steps, 4);
+    SAME(in.refusal, 0), SAME(in.runs, 2), SAME(in.ones, 6);
+    SAME(starts[0], 0), SAME(ends[0], 2), SAME(steps[0], 2), SAME(starts[1], 5), SAME(ends[1], 6), SAME(steps[1], 1);
+    SAME(starts[2], 7), SAME(ends[2], 7), SAME(steps[2], 7);
+    uint8_t out[3] = {0xAA, 0xAA, 0xAA};
+    loftsplice_exported ex = loftsplice_export(starts, 2, ends, 2, steps, 2, 10, out, 3);
+    SAME(ex.refusal, 0), SAME(ex.bytes, 2), SAME(out[0], 0xE5), SAME(out[1], 0x01), SAME(out[2], 0xAA);
+    /* the count alone says what is a record */
+    in = loftsplice_import(bytes, 2, 11, starts, 4, ends, 4, steps, 4);
+    SAME(in.runs, 3), SAME(in.ones, 7), SAME(starts[2], 10), SAME(ends[2], 7), SAME(steps[2], 0);
+    in = loftsplice_import(bytes, 0, 0, starts, 0, ends, 0, steps, 0);
+    SAME(in.refusal, 0), SAME(in.runs, 0), SAME(in.ones, 0);
+    /* refusals in their order: 14, 11, 1, 10 */
+    in = loftsplice_import(bytes, 0, LOFTSPLICE_MAX_RECORDS + 1, starts, 0, ends, 0, steps, 0);
+    SAME(in.refusal, LOFTSPLICE_COUNT), SAME(in.runs, 0), SAME(in.ones, 0);
+    in = loftsplice_import(bytes, 1, 9, starts, 0, ends, 0, steps, 0);
+    SAME(in.refusal, LOFTSPLICE_CUT);
+    in = loftsplice_import(bytes, 2, 10, starts, 4, ends, 1, steps, 4);
+    SAME(in.refusal, LOFTSPLICE_ROOM), SAME(in.runs, 0);
+    static uint8_t wide[LOFTSPLICE_MAX_RECORDS / 8];
+    for (size_t i = 0; i < sizeof wide; i++) wide[i] = i % 2 ? 0x0B : 0x80; /* no two gaps alike: a run of two each time */
+    in = loftsplice_import(wide, sizeof wide, LOFTSPLICE_MAX_RECORDS, starts, 0, ends, 0, steps, 0);
+    SAME(in.refusal, LOFTSPLICE_SHAPE), SAME(in.ones, 0);
+    /* 14, 1, 2, 3, 7, 15, 10 */
+    static const struct { int64_t start; uint64_t end; int16_t step; uint64_t count; size_t runs, room; uint32_t refusal; } bad[] = {
+        {-5, 0, 0, LOFTSPLICE_MAX_RECORDS + 1, 2, 0, LOFTSPLICE_COUNT}, {-5, 0, 0, 10, 2, 0, LOFTSPLICE_SHAPE}, {-5, 0, 0, 10, 1, 0, LOFTSPLICE_ENDS},
+        {INT64_MIN, 2, -1, 10, 1, 0, LOFTSPLICE_REACH}, {-5, 2, -1, 10, 1, 0, LOFTSPLICE_ORDER}, {-5, 2, 1, 10, 1, 0, LOFTSPLICE_RANGE},
+        {9, 2, 1, 10, 1, 0, LOFTSPLICE_RANGE}, {0, 1, -1, 0, 1, 0, LOFTSPLICE_RANGE}, {8, 2, 1, 10, 1, 1, LOFTSPLICE_ROOM}};
+    for (size_t i = 0; i < sizeof bad / sizeof *bad; i++) {
+        out[0] = 0xAA;
+        ex = loftsplice_export(&bad[i].start, 1, &bad[i].end, bad[i].runs == 2 ? 0 : 1, &bad[i].step, 1, bad[i].count, out, bad[i].room);
+        SAME(ex.refusal, bad[i].refusal), SAME(ex.bytes, 0), SAME(out[0], 0xAA);
+    }
+    /* a run of one may have any step; an empty column has a bitmap of zeros */
+    static const int64_t one = 3;
+    static const uint64_t end = 1;
+    static const int16_t step = -4;
+    ex = loftsplice_export(&one, 1, &end, 1, &step, 1, 4, out, 1);
+    SAME(ex.refusal, 0), SAME(ex.bytes, 1), SAME(out[0], 0x08);
+    ex = loftsplice_export(&one, 0, &end, 0, &step, 0, 9, out, 2);
+    SAME(ex.refusal, 0), SAME(ex.bytes, 2), SAME(out[0], 0), SAME(out[1], 0);
+}
+
 int main(void) {
     columns();
     scans();
@@ -1110,6 +1160,7 @@ int main(void) {
     chained_seeks();
     records();
     builds();
+    bitmaps();
     printf("c-test: %lu comparisons, %lu failed\n", made, failed);
     return failed != 0;
 }
