@@ -1,8 +1,8 @@
 -- A pass over a bitmap, run by run: the count, the arrays, and the call's cases. Assumes nothing.
-use Prim.Native.Nat.{ℕ, _+_, _≤_, _<_, min}
+use Prim.Native.Nat.{ℕ, _+_, _-_, _≤_, _<_, min}
 use mathlib.Core.Path.{_≡_, refl, sym, ap, ap₂, _∙_}
 use mathlib.Core.Bool.{Bool}
-use mathlib.Core.List.{List, [], _∷_}
+use mathlib.Core.List.{List, [], _∷_, _++_}
 use native.Mathlib.Omega.{arith}
 use native.Mathlib.Nat.{add-zero}
 use borrow.Author.Tests.{lt-ltb, le-ltb}
@@ -14,11 +14,12 @@ use Rattle.meaning.specs.Refusals.{Gives, Number, tried}
 use Rattle.meaning.specs.Column.{startOf, endOf, stepOf, endBefore}
 use Rattle.meaning.proofs.Runs.{before-zero, before-next}
 use Rattle.bits.specs.Bitmap.{present, countFor, bytesFor}
-use Rattle.build.specs.Rule.{Run, begun, runsOf, builtFrom}
+use Rattle.build.specs.Rule.{Run, begun, runsOf, spread, endsFrom, builtFrom}
+use Rattle.build.proofs.Rule.{spread-runs}
 use Rattle.build.proofs.Columns.{runAt, end-is, start-is, step-is}
 use Rattle.importing.specs.Import.{recordsIn, presentIn, importOf}
 use Rattle.importing.specs.Inner.{Stands, First}
-use Rattle.importing.proofs.Records.{records-none, next-records, next-stands}
+use Rattle.importing.proofs.Records.{records-none, records-length, next-records, next-stands}
 
 module _ (p : ℕ → Bool) (count : ℕ) where
   abbrev values : List ℤ
@@ -139,3 +140,31 @@ module _ (bytes : List ℕ) (count a b c : ℕ) where
         import-fine ones g k m l =
             rw (le-ltb 524288 count most, le-ltb (length bytes) (bytesFor count) long, le-ltb 4096 need (omega arith), le-ltb a need (omega arith), le-ltb b need (omega arith), le-ltb c need (omega arith))
             (ap₂ (λ (x y : ℕ). Gives (record { runs = x; ones = y })) count-is g)
+
+-- ---- nothing is present
+
+no-items : {A : Type 0} (xs : List A) → length xs ≡ 0 → xs ≡ []
+no-items [] h = refl
+no-items (x ∷ xs) h = absurd (omega arith)
+
+-- no run, no record
+none-there : (values : List ℤ) → 0 ≡ length (runsOf values) → values ≡ []
+unfolding spread
+none-there values h = sym (spread-runs values) ∙ ap spread (no-items (runsOf values) (sym h))
+
+pub none-counted : (bytes : List ℕ) (count : ℕ) → 0 ≡ length (runsOf (presentIn bytes count)) → 0 ≡ countFor (present bytes) 0 count
+none-counted bytes count h =
+    let e : count - 0 ≡ count = omega arith in
+    sym (ap length (none-there (presentIn bytes count) h)) ∙ records-length (present bytes) (count - 0) 0 ∙ ap (countFor (present bytes) 0) e
+
+-- and nothing is written
+module _ (values : List ℤ) (h : 0 ≡ length (runsOf values)) where
+  pub starts-stay : (old : List ℤ) → old ≡ builtFrom values .starts ++ drop (length (builtFrom values .starts)) old
+  starts-stay old = rw (no-items (runsOf values) (sym h))
+
+  pub ends-stay : (old : List ℕ) → old ≡ builtFrom values .ends ++ drop (length (builtFrom values .ends)) old
+  unfolding endsFrom
+  ends-stay old = rw (no-items (runsOf values) (sym h))
+
+  pub steps-stay : (old : List ℤ) → old ≡ builtFrom values .steps ++ drop (length (builtFrom values .steps)) old
+  steps-stay old = rw (no-items (runsOf values) (sym h))

@@ -273,6 +273,9 @@ pub fn import(
     if steps.len() < n {
         return Imported::Refused(Refusal::Room);
     }
+    if n == 0 {
+        return Imported::Runs(n, 0);
+    }
     write_runs(bytes, records, starts, ends, steps);
     let ones = count_present(bytes, records);
     Imported::Runs(n, ones)
