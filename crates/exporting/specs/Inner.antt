@@ -2,16 +2,22 @@
 use Prim.Native.Nat.{ℕ, zero, suc, _+_, _*_, _-_, _<_, _≤_}
 use mathlib.Core.Path.{_≡_}
 use mathlib.Core.Bool.{Bool, cond, not, _&&_, _||_}
-use mathlib.Core.List.{List}
+use mathlib.Core.List.{List, [], _∷_}
 use lib.Dec.{eqb, leb, ltb}
 use lib.ListN.{length}
 use lib.IntN.{ℤ, pos, natAbs}
 use lib.Signed.{ltZ}
+use denote.Triple.Both.{Both}
+use denote.Ref.{RefT}
 use Rattle.ranges.specs.Ranges.{allIn}
 use Rattle.keys.specs.Key.{key, down}
 use Rattle.keys.specs.Widths.{half64}
+use Rattle.meaning.specs.declared.Refusal.the-variants.{Order, Range, Room}
+use Rattle.meaning.specs.Refusals.{Said, Gives, Number, tried}
+use Rattle.meaning.specs.Sequence.{Source, rises}
 use Rattle.meaning.specs.Column.{Column, runs, startOf, stepOf, endOf, endBefore}
-use Rattle.bits.specs.Bitmap.{present}
+use Rattle.bits.specs.Bitmap.{present, bytesFor}
+use Rattle.exporting.specs.Export.{allRecords}
 
 -- ---- what is marked
 
@@ -71,3 +77,12 @@ runFits c count r = fitsAt (startOf c r) (stepOf c r) (moreOf c r) (floorOf c r)
 -- all do
 unfoldable pub allFit : Column → ℕ → Bool
 allFit c count = allIn (runFits c count) 0 (runs c)
+
+-- ---- the call
+
+-- what is to be said of a source that 14, 1, 2 and 3 have passed
+abbrev pub exportingSound : {X : Type 0} → Source → ℕ → Both (RefT (List ℕ)) X → Said ℕ
+exportingSound p count out = tried Number
+    (record { why = Order; holds = not (rises (p .sequence) 0 (p .sequence .size)) } ∷ record { why = Range; holds = not (allRecords count (p .sequence)) }
+    ∷ record { why = Room; holds = ltb (length (out .entry .now)) (bytesFor count) } ∷ [])
+    (Gives (bytesFor count))
