@@ -3,6 +3,7 @@
 ghost use Prim.Native.Nat.{_≤_};
 use record::ReadRecord;
 use record::read;
+use shown::places;
 use shown::text;
 use shown::unsigned;
 
@@ -16,27 +17,6 @@ pub(crate) fn found(r: ReadRecord) {
         }
         ReadRecord::Refused(why) => shown::refused(why),
     }
-}
-
-// What a place of the three arrays holds.
-pub(crate) fn place(start: i64, end: u64, step: i16) {
-    text(b" (");
-    shown::signed(start);
-    text(b",");
-    unsigned(end);
-    text(b",");
-    shown::signed(step as i64);
-    text(b")");
-}
-
-// All places of the three arrays, and a line end.
-fn places(starts: &[i64; 3], ends: &[u64; 3], steps: &[i16; 3]) {
-    let mut i = 0;
-    while i < 3 {
-        place(starts[i], ends[i], steps[i]);
-        i += 1;
-    }
-    text(b"\n");
 }
 
 // A record read into arrays of so many places, of the three that there are.

@@ -1,21 +1,13 @@
 // Document 01's stored example, written, read and written back; columns that are not written; the empty record and the largest. What is written
 // stands in bytes that are EE before, and all of it is shown.
 use crate::reading::*;
-use libc::STDOUT_FILENO;
 use record::Written;
 use record::read;
 use record::write;
+use shown::hex;
+use shown::place;
 use shown::text;
 use shown::unsigned;
-
-fn hex(bytes: &[u8]) {
-    let mut i = 0;
-    while i < bytes.len() {
-        text(b" ");
-        io::print_hex(STDOUT_FILENO, bytes[i] as u64, 2);
-        i += 1;
-    }
-}
 
 fn wrote(w: Written) {
     match w {

@@ -156,3 +156,34 @@ pub fn listed(l: Listed) {
         Listed::Refused(why) => refused(why),
     }
 }
+
+// What a place of the three arrays holds.
+pub fn place(start: i64, end: u64, step: i16) {
+    text(b" (");
+    signed(start);
+    text(b",");
+    unsigned(end);
+    text(b",");
+    signed(step as i64);
+    text(b")");
+}
+
+// All places of the three arrays, and a line end.
+pub fn places(starts: &[i64; 3], ends: &[u64; 3], steps: &[i16; 3]) {
+    let mut i = 0;
+    while i < 3 {
+        place(starts[i], ends[i], steps[i]);
+        i += 1;
+    }
+    text(b"\n");
+}
+
+// Bytes, each in two digits.
+pub fn hex(bytes: &[u8]) {
+    let mut i = 0;
+    while i < bytes.len() {
+        text(b" ");
+        io::print_hex(STDOUT_FILENO, bytes[i] as u64, 2);
+        i += 1;
+    }
+}

@@ -1,9 +1,9 @@
--- `examples_records::reading::place`: a step, which is an i16, is an i64. Assumes nothing.
+-- `shown::place`: a step, which is an i16, is an i64. Assumes nothing.
 use native.Mathlib.Omega.{arith}
 use mir.Facts.{toZ-ofZ}
 use borrow.Author.Needs.{needs}
-use Rattle.examples_records.proofs.reading.place.Statement.{statement}
-use Rattle.examples_records.proofs.reading.place.Tie as tie
+use Rattle.shown.proofs.place.Statement.{statement}
+use Rattle.shown.proofs.place.Tie as tie
 
 slice-aggregate-text : tie.Need-slice-aggregate-text
 slice-aggregate-text c = search needs

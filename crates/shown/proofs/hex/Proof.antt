@@ -1,10 +1,10 @@
--- `examples_records::stored::hex` ends. Assumes nothing.
+-- `shown::hex` ends. Assumes nothing.
 use Prim.Native.Nat.{_-_, _≤_}
 use lib.ListN.{length}
 use native.Mathlib.Omega.{arith}
 use borrow.Author.Needs.{needs}
-use Rattle.examples_records.proofs.stored.hex.Statement.{statement}
-use Rattle.examples_records.proofs.stored.hex.Tie as tie
+use Rattle.shown.proofs.hex.Statement.{statement}
+use Rattle.shown.proofs.hex.Tie as tie
 
 abbrev Inv-loop : tie.InvT-loop
 Inv-loop bytes i₀ t3 i = i ≤ length bytes

@@ -1,8 +1,8 @@
--- `examples_records::reading::places` ends, and reads within its arrays. Assumes nothing.
+-- `shown::places` ends, and reads within its arrays. Assumes nothing.
 use Prim.Native.Nat.{_-_, _≤_}
 use borrow.Author.Needs.{needs}
-use Rattle.examples_records.proofs.reading.places.Statement.{statement}
-use Rattle.examples_records.proofs.reading.places.Tie as tie
+use Rattle.shown.proofs.places.Statement.{statement}
+use Rattle.shown.proofs.places.Tie as tie
 
 abbrev Inv-loop : tie.InvT-loop
 Inv-loop starts ends steps i₀ t5 i = i ≤ 3
