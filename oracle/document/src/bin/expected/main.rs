@@ -7,6 +7,7 @@ use document::model::{Column, Session};
 use std::path::{Path, PathBuf};
 use std::process::ExitCode;
 
+mod built;
 mod cases;
 mod columns;
 mod command;
@@ -59,6 +60,7 @@ fn stored() -> Vec<(&'static str, Vec<u8>)> {
         ("crates/examples_scans/stdout", scans.concat().into_bytes()),
         ("crates/examples_listings/stdout", listings::listed().into_bytes()),
         ("crates/examples_records/stdout", records::stored().into_bytes()),
+        ("crates/examples_built/stdout", built::built().into_bytes()),
         ("crates/command/stdout", command::stdout().into_bytes()),
         ("crates/command/data/bark.rec", samples::bark()),
         ("samples/bark.rec", samples::bark()),

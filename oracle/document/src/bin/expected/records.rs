@@ -46,30 +46,37 @@ fn writing(out: &mut String, name: &str, column: &Runs, room: usize) {
     *out += &format!("{name}{answer}{shown}\n");
 }
 
+/// Three arrays of so many places, which hold 7 before, and then these runs.
+pub fn filled(places: usize, runs: &Runs) -> Runs {
+    let n = runs.ends.len();
+    let mut held = arrays(&vec![7; places], &vec![7; places], &vec![7; places]);
+    held.starts[..n].copy_from_slice(&runs.starts);
+    held.ends[..n].copy_from_slice(&runs.ends);
+    held.steps[..n].copy_from_slice(&runs.steps);
+    held
+}
+
 /// What reading answers, and the three arrays of so many places, of which only `rooms` are lent.
 fn answered(bytes: &[u8], places: usize, rooms: [usize; 3]) -> (String, Runs) {
-    let mut held = arrays(&vec![7; places], &vec![7; places], &vec![7; places]);
-    let answer = match ask(&Runs::default(), Call::Read(bytes.to_vec(), rooms)) {
-        Said::Read { used, runs } => {
-            let n = runs.ends.len();
-            held.starts[..n].copy_from_slice(&runs.starts);
-            held.ends[..n].copy_from_slice(&runs.ends);
-            held.steps[..n].copy_from_slice(&runs.steps);
-            format!("{n} runs, {used} bytes used")
-        }
-        other => told(&other),
+    let (answer, runs) = match ask(&Runs::default(), Call::Read(bytes.to_vec(), rooms)) {
+        Said::Read { used, runs } => (format!("{} runs, {used} bytes used", runs.ends.len()), runs),
+        other => (told(&other), Runs::default()),
     };
-    (answer, held)
+    (answer, filled(places, &runs))
 }
 
 fn place(runs: &Runs, r: usize) -> String {
     format!(" ({},{},{})", runs.starts[r], runs.ends[r], runs.steps[r])
 }
 
+/// All places of three arrays that are equally long.
+pub fn places(held: &Runs) -> String {
+    (0..held.ends.len()).map(|r| place(held, r)).collect()
+}
+
 fn reading(out: &mut String, name: &str, bytes: &[u8], rooms: [usize; 3]) {
     let (answer, held) = answered(bytes, 3, rooms);
-    let places: String = (0..3).map(|r| place(&held, r)).collect();
-    *out += &format!("{name}{answer}{places}\n");
+    *out += &format!("{name}{answer}{}\n", places(&held));
 }
 
 /// Document 01's own bytes: with room, with too little, and cut after each byte.
