@@ -1,5 +1,5 @@
-//! The program examples_built: columns made from plain lists, with the whole of the outputs. The places of the three arrays hold 7 before.
-use crate::records::{filled, places};
+//! The program examples_built: columns made from plain lists and from bitmaps, with the whole of the outputs. The places of the three arrays hold 7 before.
+use crate::records::{filled, output, places};
 use crate::{ask, told};
 use document::calls::{Call, Runs, Said};
 
@@ -46,4 +46,41 @@ fn edges(out: &mut String) {
     }
     building(out, "the least, then the greatest: ", &[i64::MIN, i64::MAX], [3; 3]);
     building(out, "the greatest, then the least: ", &[i64::MAX, i64::MIN], [3; 3]);
+}
+
+/// Bitmaps as columns, and back; the bytes hold EE before.
+pub fn mapped() -> String {
+    let mut out = String::from("== mapped\n");
+    for (name, bytes, count) in [
+        ("E5 01, 10 records: ", &[0xE5, 0x01][..], 10),
+        ("E5 01, 11 records: ", &[0xE5, 0x01], 11),
+        ("E5 FD, 10 records: ", &[0xE5, 0xFD], 10),
+        ("E5 FD, 11 records: ", &[0xE5, 0xFD], 11),
+        ("E5, 9 records: ", &[0xE5], 9),
+        ("E5, 524289 records: ", &[0xE5], 524_289),
+        ("four runs: ", &[0x2B, 0x89], 16),
+    ] {
+        importing(&mut out, name, bytes, count);
+    }
+    for (name, run, count) in [
+        ("to the last record: ", (3, 2, 4), 10),
+        ("past the last record: ", (4, 2, 4), 10),
+        ("below record 0: ", (-1, 1, 2), 10),
+        ("does not rise: ", (4, 0, 2), 10),
+        ("does not rise, past the last record: ", (12, -1, 2), 10),
+        ("four bytes: ", (3, 0, 1), 25),
+    ] {
+        output(&mut out, name, &Runs::of(&[run]), Call::Export(count, 3), 3);
+    }
+    out
+}
+
+/// What is refused has no run, and goes back as no record.
+fn importing(out: &mut String, name: &str, bytes: &[u8], count: u64) {
+    let (answer, runs) = match ask(&Runs::default(), Call::Import(bytes.to_vec(), count, [3; 3])) {
+        Said::Imported { ones, runs } => (format!("{} runs, {ones} ones", runs.ends.len()), runs),
+        other => (told(&other), Runs::default()),
+    };
+    *out += &format!("{name}{answer}{}\n", places(&filled(3, &runs)));
+    output(out, "back: ", &runs, Call::Export(count, 3), 3);
 }

@@ -55,12 +55,13 @@ fn lines_alike(a: &[u8], b: &[u8]) -> usize {
 /// The stored files, and what each must hold.
 fn stored() -> Vec<(&'static str, Vec<u8>)> {
     let scans = [scans::scanned(), scans::lending()];
+    let made = [built::built(), built::mapped()];
     vec![
         ("crates/examples_columns/stdout", columns::run_only().into_bytes()),
         ("crates/examples_scans/stdout", scans.concat().into_bytes()),
         ("crates/examples_listings/stdout", listings::listed().into_bytes()),
         ("crates/examples_records/stdout", records::stored().into_bytes()),
-        ("crates/examples_built/stdout", built::built().into_bytes()),
+        ("crates/examples_built/stdout", made.concat().into_bytes()),
         ("crates/command/stdout", command::stdout().into_bytes()),
         ("crates/command/data/bark.rec", samples::bark()),
         ("samples/bark.rec", samples::bark()),

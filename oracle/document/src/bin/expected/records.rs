@@ -34,8 +34,13 @@ fn writings(out: &mut String) {
 }
 
 fn writing(out: &mut String, name: &str, column: &Runs, room: usize) {
+    output(out, name, column, Call::Write(room), room);
+}
+
+/// A call that writes into so many bytes, and all of them.
+pub fn output(out: &mut String, name: &str, column: &Runs, call: Call, room: usize) {
     let mut bytes = vec![0xEE; room];
-    let answer = match ask(column, Call::Write(room)) {
+    let answer = match ask(column, call) {
         Said::Written(b) => {
             bytes[..b.len()].copy_from_slice(&b);
             format!("{} bytes", b.len())
