@@ -1,4 +1,4 @@
-//! Bitmaps that another library of the Arrow family wrote, and which records it reads as present (samples/arrow in the repository says how they were made):
+//! Bitmaps that another library of the Arrow family wrote, and which records it reads as present (tests/arrow/README.md says how they were made):
 //! imported they give these records, and these exported give its bytes.
 use loftsplice::ColumnBuf;
 use std::{fs, path::Path};
@@ -20,7 +20,7 @@ fn present(text: &str) -> (u64, Vec<i64>) {
 
 #[test]
 fn what_another_library_wrote() {
-    let folder = Path::new(env!("CARGO_MANIFEST_DIR")).join("../../samples/arrow");
+    let folder = Path::new(env!("CARGO_MANIFEST_DIR")).join("tests/arrow");
     let mut played = Vec::new();
     for entry in fs::read_dir(folder).unwrap() {
         let path = entry.unwrap().path();
