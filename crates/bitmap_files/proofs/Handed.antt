@@ -12,6 +12,7 @@ use Rattle.meaning.specs.Sequence.{Source}
 use Rattle.meaning.specs.Column.{Column, columnOf, runs}
 use Rattle.meaning.proofs.Judging.{no-number, refused-before, gives-clear}
 use Rattle.meaning.proofs.Tried.{clear-gives}
+use Rattle.meaning.proofs.Unique.{one-result}
 use Rattle.bits.specs.Bitmap.{bytesFor}
 use Rattle.bits.proofs.Exact.{bitmap-long}
 use Rattle.build.specs.Rule.{Run, runsOf}
@@ -20,6 +21,9 @@ use Rattle.codec.specs.Record.{recordOf, writeOf}
 use Rattle.codec.proofs.Writing.{record-length}
 use Rattle.importing.specs.Import.{presentIn, importedColumn, Imports, importTests, importOf}
 use Rattle.exporting.specs.Export.{exportTests, exportOf, exportedBytes}
+use Rattle.record.specs.declared.Written.{Written}
+use Rattle.record.specs.Says.{saysWritten}
+use Rattle.record.proofs.Unique.{written-apart}
 use Rattle.bitmap_files.specs.Stored.{storedOf}
 
 -- ---- so many places of an output
@@ -102,3 +106,9 @@ module _ (bytes : List ℕ) (count : ℕ) where
 pub exported-size : (p : Source) (count room n : ℕ) → Gives n ≡ exportOf p count room → n ≡ length (exportedBytes p count)
 unfolding exportOf
 exported-size p count room n h = given-same (sym (passed (Gives (bytesFor count)) n (exportTests p count room) (sym h))) ∙ sym (bitmap-long _ (bytesFor count) 0)
+
+-- ---- one result
+
+-- of `stored`; the output's content is promised as an equation
+pub stored-one : (bytes : List ℕ) (count places : ℕ) (x y : Written) → saysWritten x ≡ storedOf bytes count places → saysWritten y ≡ storedOf bytes count places → x ≡ y
+stored-one bytes count places = one-result saysWritten written-apart
