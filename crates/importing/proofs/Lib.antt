@@ -1,3 +1,4 @@
 pub mod Records
 pub mod Strips
+pub mod Windows
 pub mod Passing

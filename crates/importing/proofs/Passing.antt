@@ -1,69 +1,99 @@
--- A pass over a bitmap, run by run: the count, the arrays, and the call's cases. Assumes nothing.
-use Prim.Native.Nat.{ℕ, _+_, _-_, _≤_, _<_, min}
+-- A pass over a bitmap, run by run: the runs that are kept, the arrays, and the call's cases. Assumes nothing.
+use Prim.Native.Nat.{ℕ, _+_, _-_, _*_, _/_, _%_, _≤_, _<_, min}
 use mathlib.Core.Path.{_≡_, refl, sym, ap, ap₂, _∙_}
-use mathlib.Core.Bool.{Bool}
+use mathlib.Core.Bool.{Bool, true}
+use mathlib.Core.Logic.{⊎-elim}
 use mathlib.Core.List.{List, [], _∷_, _++_}
 use native.Mathlib.Omega.{arith}
 use native.Mathlib.Nat.{add-zero}
 use borrow.Author.Tests.{lt-ltb, le-ltb}
-use lib.ListN.{length, drop, length-drop}
-use lib.Seq.{drop-drop, getD-drop}
+use lib.ListN.{length, getD, set, drop, length-set, length-drop}
+use lib.Seq.{drop-drop, getD-drop, getD-set-same, getD-set-other}
 use lib.IntN.{ℤ, pos}
 use Rattle.ranges.specs.Ranges.{firstFrom}
+use Rattle.ranges.proofs.Spans.{lt-or-ge}
 use Rattle.meaning.specs.Refusals.{Gives, Number, tried}
 use Rattle.meaning.specs.Column.{startOf, endOf, stepOf, endBefore}
-use Rattle.meaning.proofs.Runs.{before-zero, before-next}
 use Rattle.bits.specs.Bitmap.{present, countFor, bytesFor}
 use Rattle.build.specs.Rule.{Run, begun, runsOf, spread, endsFrom, builtFrom}
 use Rattle.build.proofs.Rule.{spread-runs}
 use Rattle.build.proofs.Columns.{runAt, end-is, start-is, step-is}
 use Rattle.importing.specs.Import.{recordsIn, presentIn, importOf}
-use Rattle.importing.specs.Inner.{Stands, First}
-use Rattle.importing.proofs.Records.{records-none, records-length, next-records, next-stands}
+use Rattle.importing.specs.Inner.{Stands, First, Kept, unpacked}
+use Rattle.importing.proofs.Records.{records-here, records-none, records-length, next-records, next-stands}
+
+no-items : {A : Type 0} (xs : List A) → length xs ≡ 0 → xs ≡ []
+no-items [] h = refl
+no-items (x ∷ xs) h = absurd (omega arith)
+
+-- no run, no record
+none-there : (values : List ℤ) → 0 ≡ length (runsOf values) → values ≡ []
+unfolding spread
+none-there values h = sym (spread-runs values) ∙ ap spread (no-items (runsOf values) (sym h))
+
+-- ---- a run as one number
+
+pub unpack : (at step k word : ℕ) → word ≡ at * 34359738368 + k * 32768 + step → step ≤ 32767 → k ≤ 524288 → unpacked word ≡ record { start = pos at; step = pos step; count = k }
+unpack at step k word e l m =
+    let a : word / 34359738368 ≡ at = omega arith in
+    let b : word % 32768 ≡ step = omega arith in
+    let h : word / 32768 ≡ at * 1048576 + k = omega arith in
+    let c : word / 32768 % 1048576 ≡ k = rw h (omega arith) in
+    rw (a, b, c)
+
+kept-more : (words : List ℕ) (values : List ℤ) (n word : ℕ) → Kept words values n → n < length words → unpacked word ≡ runAt (runsOf values) n → Kept (set words n word) values (n + 1)
+kept-more words values n word kept there is = (
+  omega (arith, length-set words n word),
+  λ k l. ⊎-elim
+      (λ (u : k < n). ap unpacked (getD-set-other words n k word 0 (λ e. absurd (omega (arith, e)))) ∙ kept .1 k u)
+      (λ (u : n ≤ k).
+      let e : k ≡ n = omega arith in
+      rw e (ap unpacked (getD-set-same words n word 0 there) ∙ is))
+      (lt-or-ge k n),
+)
+
+-- ---- the runs, found and kept
 
 module _ (p : ℕ → Bool) (count : ℕ) where
-  abbrev values : List ℤ
-  values = recordsIn p 0 count
-
   -- no record is left, no run is
   none-left : (at : ℕ) → count ≤ at → runsOf (recordsIn p at count) ≡ []
   unfolding runsOf
   none-left at l = rw (records-none p at count l)
 
-  -- ---- the count
+  some-left : (at : ℕ) → at < count → p at ≡ true → 0 < length (runsOf (recordsIn p at count))
+  some-left at l h =
+      ⊎-elim
+      (λ (u : 0 < length (runsOf (recordsIn p at count))). u)
+      (λ (u : length (runsOf (recordsIn p at count)) ≤ 0).
+      let e : 0 ≡ length (runsOf (recordsIn p at count)) = omega arith in
+      absurd (omega (arith, ap length (sym (records-here p at count l h) ∙ none-there (recordsIn p at count) e))))
+      (lt-or-ge 0 (length (runsOf (recordsIn p at count))))
 
-  pub count-start : (at : ℕ) → at ≡ firstFrom p 0 count → length (runsOf (recordsIn p 0 count)) ≡ 0 + length (runsOf (recordsIn p at count))
-  count-start at e = ap (λ (zs : List ℤ). length (runsOf zs)) (next-records p 0 count at (omega arith) e) ∙ omega arith
-
-  module _ (n at : ℕ) (is : length (runsOf (recordsIn p 0 count)) ≡ n + length (runsOf (recordsIn p at count))) where
-    pub count-more : (step k next : ℕ) → First p count at step k next → length (runsOf (recordsIn p 0 count)) ≡ n + 1 + length (runsOf (recordsIn p next count))
-    count-more step k next f = omega (arith, is, ap length (f .is))
-
-    pub count-done : count ≤ at → n ≡ length (runsOf (recordsIn p 0 count))
-    count-done l = omega (arith, is, ap length (none-left at l))
-
-  -- ---- the arrays
-
-  -- n runs, of i records, are written, and the next begins at record at
-  pub record Passed (n i at : ℕ) : Type 0 where
+  -- n runs are kept, and the next begins at record at
+  pub record Passed (words : List ℕ) (n at : ℕ) : Type 0 where
     pub stands : Stands p count at
-    pub each : n ≤ i
-    pub low : i ≤ at
+    pub low : n ≤ at
     pub few : n ≤ length (runsOf (recordsIn p 0 count))
-    pub is-end : i ≡ endBefore (builtFrom (recordsIn p 0 count) .ends) n
     pub left : drop n (runsOf (recordsIn p 0 count)) ≡ runsOf (recordsIn p at count)
+    pub kept : Kept words (recordsIn p 0 count) n
 
-  pub passed-none : (at : ℕ) → at ≡ firstFrom p 0 count → Passed 0 0 at
-  passed-none at e = record {
+  pub passed-none : (words : List ℕ) (at : ℕ) → at ≡ firstFrom p 0 count → Passed words 0 at
+  passed-none words at e = record {
     stands = next-stands p 0 count at (omega arith) e;
-    each = omega arith;
     low = omega arith;
     few = omega arith;
-    is-end = before-zero (builtFrom (recordsIn p 0 count) .ends) {r = 0} refl;
     left = ap runsOf (next-records p 0 count at (omega arith) e);
+    kept = (omega arith, λ k l. absurd (omega arith));
   }
 
-  module _ (n i at : ℕ) (q : Passed n i at) where
+  module _ (words : List ℕ) (n at : ℕ) (q : Passed words n at) where
+    left-length : length (runsOf (recordsIn p 0 count)) ≡ n + length (runsOf (recordsIn p at count))
+    left-length = omega (arith, ap length (q .left), length-drop n (runsOf (recordsIn p 0 count)), q .few)
+
+    -- there is one more
+    pub passed-over : at < count → n < length (runsOf (recordsIn p 0 count))
+    passed-over l = omega (arith, left-length, some-left at l (q .stands .1 l))
+
     module _ (step k next : ℕ) (f : First p count at step k next) where
       abbrev run : Run
       run = record { start = pos at; step = pos step; count = k }
@@ -71,33 +101,32 @@ module _ (p : ℕ → Bool) (count : ℕ) where
       rest : drop n (runsOf (recordsIn p 0 count)) ≡ (run ∷ runsOf (recordsIn p next count))
       rest = q .left ∙ f .is
 
-      pub next-there : n < length (runsOf (recordsIn p 0 count))
-      next-there = omega (arith, ap length rest, length-drop n (runsOf (recordsIn p 0 count)))
-
       here : runAt (runsOf (recordsIn p 0 count)) n ≡ run
       here = ap (runAt (runsOf (recordsIn p 0 count))) (sym (add-zero n)) ∙ sym (getD-drop n (runsOf (recordsIn p 0 count)) 0 (begun (pos 0))) ∙ ap (λ (xs : List Run). runAt xs 0) rest
 
-      pub next-start : pos at ≡ startOf (builtFrom (recordsIn p 0 count)) n
-      next-start = sym (start-is (runsOf (recordsIn p 0 count)) n ∙ ap (λ (r : Run). r .start) here)
-
-      pub next-step : pos step ≡ stepOf (builtFrom (recordsIn p 0 count)) n
-      next-step = sym (step-is (runsOf (recordsIn p 0 count)) n ∙ ap (λ (r : Run). r .step) here)
-
-      pub next-end : i + k ≡ endOf (builtFrom (recordsIn p 0 count)) n
-      next-end = sym (end-is (runsOf (recordsIn p 0 count)) n next-there ∙ rw (here, ← q .is-end))
-
-      pub passed-more : Passed (n + 1) (i + k) next
-      passed-more = record {
+      pub passed-more : (word : ℕ) → n < length words → count ≤ 524288 → word ≡ at * 34359738368 + k * 32768 + step → Passed (set words n word) (n + 1) next
+      passed-more word there most e = record {
         stands = f .stands;
-        each = omega (arith, q .each, f .some);
-        low = omega (arith, q .low, f .after);
-        few = omega (arith, next-there);
-        is-end = next-end ∙ before-next (builtFrom (recordsIn p 0 count) .ends) n;
+        low = omega (arith, q .low, f .after, f .some);
+        few = omega (arith, left-length, ap length (f .is));
         left = sym (drop-drop 1 n (runsOf (recordsIn p 0 count))) ∙ ap (drop 1) rest;
+        kept = kept-more words (recordsIn p 0 count) n word (q .kept) there (unpack at step k word e (f .small) (omega (arith, f .after, f .stands .0)) ∙ sym here);
       }
 
     pub passed-done : count ≤ at → n ≡ length (runsOf (recordsIn p 0 count))
-    passed-done l = omega (arith, ap length (q .left), ap length (none-left at l), length-drop n (runsOf (recordsIn p 0 count)), q .few)
+    passed-done l = omega (arith, left-length, ap length (none-left at l))
+
+-- ---- the arrays
+
+module _ (words : List ℕ) (values : List ℤ) (n k : ℕ) (kept : Kept words values n) (l : k < n) where
+  pub kept-start : pos (getD words k 0 / 34359738368) ≡ startOf (builtFrom values) k
+  kept-start = ap (λ (r : Run). r .start) (kept .1 k l) ∙ sym (start-is (runsOf values) k)
+
+  pub kept-step : pos (getD words k 0 % 32768) ≡ stepOf (builtFrom values) k
+  kept-step = ap (λ (r : Run). r .step) (kept .1 k l) ∙ sym (step-is (runsOf values) k)
+
+  pub kept-end : (i : ℕ) → n ≡ length (runsOf values) → i ≡ endBefore (builtFrom values .ends) k → i + getD words k 0 / 32768 % 1048576 ≡ endOf (builtFrom values) k
+  kept-end i e g = omega (arith, g, ap (λ (r : Run). r .count) (kept .1 k l), end-is (runsOf values) k (omega (arith, e)))
 
 -- ---- the call
 
@@ -142,15 +171,6 @@ module _ (bytes : List ℕ) (count a b c : ℕ) where
             (ap₂ (λ (x y : ℕ). Gives (record { runs = x; ones = y })) count-is g)
 
 -- ---- nothing is present
-
-no-items : {A : Type 0} (xs : List A) → length xs ≡ 0 → xs ≡ []
-no-items [] h = refl
-no-items (x ∷ xs) h = absurd (omega arith)
-
--- no run, no record
-none-there : (values : List ℤ) → 0 ≡ length (runsOf values) → values ≡ []
-unfolding spread
-none-there values h = sym (spread-runs values) ∙ ap spread (no-items (runsOf values) (sym h))
 
 pub none-counted : (bytes : List ℕ) (count : ℕ) → 0 ≡ length (runsOf (presentIn bytes count)) → 0 ≡ countFor (present bytes) 0 count
 none-counted bytes count h =

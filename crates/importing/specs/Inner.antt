@@ -1,14 +1,15 @@
 -- What the inner functions of the import tell each other. No promise of a public call names it. Assumes nothing.
-use Prim.Native.Nat.{ℕ, suc, _+_, _-_, _*_, _<_, _≤_}
+use Prim.Native.Nat.{ℕ, suc, _+_, _-_, _*_, _/_, _%_, _^_, _<_, _≤_}
 use mathlib.Core.Path.{_≡_}
 use mathlib.Core.Bool.{Bool, true}
 use mathlib.Core.List.{List, _∷_, _++_}
-use lib.ListN.{length}
+use lib.ListN.{length, getD}
 use lib.IntN.{ℤ, pos}
 use denote.Ref.{RefT}
 use Rattle.meaning.specs.Column.{offset}
 use Rattle.meaning.specs.Parts.{each}
-use Rattle.build.specs.Rule.{runsOf}
+use Rattle.bits.specs.Word.{windowAt}
+use Rattle.build.specs.Rule.{Run, begun, runsOf}
 use Rattle.importing.specs.Import.{recordsIn, presentIn}
 
 -- a record at which the test holds, or the count
@@ -33,6 +34,22 @@ pub record Going (p : ℕ → Bool) (count at by last n : ℕ) : Type 0 where
   pub is-last : last ≡ at + by * (n - 1)
   pub inside : last < count
   pub strip : Strip p count at by (n - 1)
+
+-- what a window shows of the records behind one: so many of its records, the one itself the last of them, are gone
+pub record Behind (bytes : List ℕ) (count at shown : ℕ) : Type 0 where
+  pub base : ℕ
+  pub gone : ℕ
+  pub is : shown ≡ windowAt true bytes base / 2 ^ gone
+  pub from : at + 1 ≡ base + gone
+  pub inside : base + 64 ≤ count
+
+-- a run that is kept as one number
+abbrev pub unpacked : ℕ → Run
+unpacked word = record { start = pos (word / 34359738368); step = pos (word % 32768); count = word / 32768 % 1048576 }
+
+-- the rule's first n runs of the values are kept so, in the first n places
+abbrev pub Kept : List ℕ → List ℤ → ℕ → Type 0
+Kept words values n = (n ≤ length words) × ((k : ℕ) → k < n → unpacked (getD words k 0) ≡ getD (runsOf values) k (begun (pos 0)))
 
 -- a place for each run in the three arrays
 abbrev pub RoomFor : RefT (List ℕ) → ℕ → RefT (List ℤ) → RefT (List ℕ) → RefT (List ℤ) → Type 0

@@ -9,8 +9,8 @@ use Rattle.importing.specs.Inner.{First, Going}
 use Rattle.importing.proofs.Records.{next-from, next-to}
 use Rattle.importing.proofs.Strips.{going-more, going-few, going-first}
 use borrow.Author.Needs.{needs}
-use Rattle.importing.proofs.run_of_steps.Statement.{statement}
-use Rattle.importing.proofs.run_of_steps.Tie as tie
+use Rattle.importing.proofs.single.run_of_steps.Statement.{statement}
+use Rattle.importing.proofs.single.run_of_steps.Tie as tie
 
 abbrev Inv-loop : tie.InvT-loop
 Inv-loop bytes at second count by last₀ n₀ next₀ last n next =

@@ -1,8 +1,8 @@
 -- `run_at` meets its contract: by the window, or by searches. Assumes nothing.
 use native.Mathlib.Omega.{arith}
 use borrow.Author.Needs.{needs}
-use Rattle.importing.proofs.run_at.Statement.{statement}
-use Rattle.importing.proofs.run_at.Tie as tie
+use Rattle.importing.proofs.single.run_at.Statement.{statement}
+use Rattle.importing.proofs.single.run_at.Tie as tie
 
 add-if1 : tie.Need-add-if1
 add-if1 c = omega arith

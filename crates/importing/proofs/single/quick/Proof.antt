@@ -16,8 +16,8 @@ use Rattle.bits.proofs.Next.{window-first, window-near}
 use Rattle.importing.proofs.Records.{next-holds}
 use Rattle.importing.proofs.Strips.{quick-ones, quick-two}
 use borrow.Author.Needs.{needs}
-use Rattle.importing.proofs.quick.Statement.{statement}
-use Rattle.importing.proofs.quick.Tie as tie
+use Rattle.importing.proofs.single.quick.Statement.{statement}
+use Rattle.importing.proofs.single.quick.Tie as tie
 
 -- the records that are present one after the other
 module _ (c : tie.Else1) where

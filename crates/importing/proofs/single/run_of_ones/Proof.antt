@@ -6,8 +6,8 @@ use Rattle.bits.specs.Bitmap.{present}
 use Rattle.importing.proofs.Records.{next-from}
 use Rattle.importing.proofs.Strips.{first-ones}
 use borrow.Author.Needs.{needs}
-use Rattle.importing.proofs.run_of_ones.Statement.{statement}
-use Rattle.importing.proofs.run_of_ones.Tie as tie
+use Rattle.importing.proofs.single.run_of_ones.Statement.{statement}
+use Rattle.importing.proofs.single.run_of_ones.Tie as tie
 
 abbrev absent : tie.Start → ℕ → Bool
 absent s i = not (present (s .args .bytes .now) i)

@@ -7,8 +7,8 @@ use Rattle.bits.specs.Bitmap.{present}
 use Rattle.importing.proofs.Records.{next-from, next-to, next-holds}
 use Rattle.importing.proofs.Strips.{first-alone}
 use borrow.Author.Needs.{needs}
-use Rattle.importing.proofs.run_from.Statement.{statement}
-use Rattle.importing.proofs.run_from.Tie as tie
+use Rattle.importing.proofs.single.run_from.Statement.{statement}
+use Rattle.importing.proofs.single.run_from.Tie as tie
 
 module _ (c : tie.After-next-present) where
   abbrev st : tie.Start

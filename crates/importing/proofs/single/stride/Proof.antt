@@ -10,8 +10,8 @@ use Rattle.bits.proofs.Next.{window-first, window-near}
 use Rattle.importing.specs.Inner.{Going}
 use Rattle.importing.proofs.Strips.{going-start, going-more}
 use borrow.Author.Needs.{needs}
-use Rattle.importing.proofs.stride.Statement.{statement}
-use Rattle.importing.proofs.stride.Tie as tie
+use Rattle.importing.proofs.single.stride.Statement.{statement}
+use Rattle.importing.proofs.single.stride.Tie as tie
 
 abbrev Inv-loop : tie.InvT-loop
 Inv-loop bytes at second count by last₀ n₀ last n = Going (present bytes) count at by last n × (n ≤ last + 1)
