@@ -18,13 +18,13 @@ use Rattle.meaning.specs.Calls.{checkOf}
 use Rattle.meaning.proofs.Soundness.{Sure, sure-none, sure-more}
 
 -- an "or" is not below what goes into it
-or-left : (a b : ℕ) → a ≤ bitOr a b
+pub or-left : (a b : ℕ) → a ≤ bitOr a b
 or-left a b = sums (bitOr a b) (bitAnd a b) (or-add-and a b) (and-le-r a b)
   where
     sums : (o n : ℕ) → o + n ≡ a + b → n ≤ b → a ≤ o
     sums o n e l = omega arith
 
-or-right : (a b : ℕ) → b ≤ bitOr a b
+pub or-right : (a b : ℕ) → b ≤ bitOr a b
 or-right a b = rw (or-comm a b) (or-left b a)
 
 -- within 2 ^ 62 of 0 a start has room for every step and length
