@@ -1,7 +1,8 @@
 //! The only module with `unsafe`: the exported functions of the proved archive, and a safe function over each.
 //!
 //! Each exported function is proved to be total (it has no condition for its caller), to read only the places of the lists that it is lent, and to
-//! keep no pointer. What is left to show at each call is said there.
+//! keep no pointer. What is left to show at each call is said there. Beside the calls there is one function that puts the numbers of a scan together
+//! (`scan::paired`).
 
 mod bitmap;
 mod build;

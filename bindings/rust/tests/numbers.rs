@@ -304,3 +304,30 @@ fn a_refused_listing_writes_nothing() {
         )
     );
 }
+
+/// A refused call hands back the scan that came in, each number in its place.
+#[test]
+fn scans_come_back_number_by_number() {
+    let scan = raw::Scan {
+        start: u64::MAX - 1,
+        end: 2,
+        index: u64::MAX - 3,
+        value: i64::MIN + 4,
+        state: u32::MAX - 5,
+        found: 6,
+    };
+    for moved in [
+        raw::scan_next(scan, &[], &[], &[]),
+        raw::scan_seek(scan, &[], &[], &[], 7),
+    ] {
+        assert_eq!(
+            (
+                moved.scan,
+                moved.answer.refusal,
+                moved.answer.found,
+                moved.answer.value
+            ),
+            (scan, 100, 0, 0)
+        );
+    }
+}

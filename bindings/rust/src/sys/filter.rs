@@ -110,6 +110,7 @@ pub fn filter_new(
 /// assert_eq!((sifted.answer.value, sifted.filter.state), (20, raw::WITHIN));
 /// ```
 #[must_use]
+#[inline]
 pub fn filter_next(
     filter: Filter,
     starts: &[i64],
@@ -154,6 +155,7 @@ pub fn filter_next(
 /// assert_eq!(sifted.answer.value, 25);
 /// ```
 #[must_use]
+#[inline]
 pub fn filter_seek(
     filter: Filter,
     starts: &[i64],

@@ -1,5 +1,7 @@
 //! The calls on a scan.
 use crate::raw::{Answer, Moved, NewScan, Position, Scan};
+#[cfg(target_arch = "x86_64")]
+use core::arch::x86_64::{__m128i, _mm_set_epi64x};
 
 extern "C" {
     fn loftsplice_scan_new(
@@ -61,6 +63,46 @@ extern "C" {
     ) -> Position;
 }
 
+/// A scan as it is copied on: 16 bytes at a time.
+#[cfg(target_arch = "x86_64")]
+#[repr(C, packed(8))]
+struct Pairs(__m128i, __m128i, u64);
+
+/// The same numbers, put together as they are copied on. The archive writes them one by one and a copy reads them by pairs: a processor waits with such a
+/// read until the writes are done, and a call waits for its scan. So each is read as it was written, and the pairs are made here.
+#[cfg(target_arch = "x86_64")]
+#[inline]
+fn paired(moved: &Moved) -> Moved {
+    let Moved { scan, answer } = moved;
+    // SAFETY: each pointer is that of a field that is borrowed, and a read of a number has no other condition. SSE2, which makes a pair, is part of
+    // x86-64. Pairs and Scan have the same 40 bytes: start, end; index, value; state, then found, the low half first; and each bit pattern is a Scan.
+    unsafe {
+        let [start, end, index] = [&scan.start, &scan.end, &scan.index]
+            .map(|number| core::ptr::from_ref(number).cast::<i64>().read_volatile());
+        let [state, found] = [&scan.state, &scan.found]
+            .map(|number| u64::from(core::ptr::from_ref(number).read_volatile()));
+        let value = core::ptr::from_ref(&scan.value).read_volatile();
+        let pairs = Pairs(
+            _mm_set_epi64x(end, start),
+            _mm_set_epi64x(value, index),
+            state | found << 32,
+        );
+        Moved {
+            scan: core::mem::transmute::<Pairs, Scan>(pairs),
+            answer: Answer {
+                refusal: core::ptr::from_ref(&answer.refusal).read_volatile(),
+                found: core::ptr::from_ref(&answer.found).read_volatile(),
+                value: core::ptr::from_ref(&answer.value).read_volatile(),
+            },
+        }
+    }
+}
+
+#[cfg(not(target_arch = "x86_64"))]
+fn paired(moved: &Moved) -> Moved {
+    *moved
+}
+
 /// A fresh scan over the whole column; or refused 1, 2, 3.
 ///
 /// ```
@@ -95,9 +137,10 @@ pub fn scan_new(starts: &[i64], ends: &[u64], steps: &[i16]) -> NewScan {
 /// assert_eq!((moved.scan.found, moved.scan.value), (1, 10));
 /// ```
 #[must_use]
+#[inline]
 pub fn scan_next(scan: Scan, starts: &[i64], ends: &[u64], steps: &[i16]) -> Moved {
     // SAFETY: each pointer and length are those of a slice that is borrowed for the whole call, and every number is allowed.
-    unsafe {
+    let moved = unsafe {
         loftsplice_scan_next(
             scan,
             starts.as_ptr(),
@@ -107,7 +150,8 @@ pub fn scan_next(scan: Scan, starts: &[i64], ends: &[u64], steps: &[i16]) -> Mov
             steps.as_ptr(),
             steps.len(),
         )
-    }
+    };
+    paired(&moved)
 }
 
 /// To the first element from here on that is not below the target, or none; or refused 100, 1, 2, 3, 6, 7.
@@ -120,9 +164,10 @@ pub fn scan_next(scan: Scan, starts: &[i64], ends: &[u64], steps: &[i16]) -> Mov
 /// assert_eq!((moved.answer.value, moved.scan.index), (20, 2));
 /// ```
 #[must_use]
+#[inline]
 pub fn scan_seek(scan: Scan, starts: &[i64], ends: &[u64], steps: &[i16], target: i64) -> Moved {
     // SAFETY: each pointer and length are those of a slice that is borrowed for the whole call, and every number is allowed.
-    unsafe {
+    let moved = unsafe {
         loftsplice_scan_seek(
             scan,
             starts.as_ptr(),
@@ -133,7 +178,8 @@ pub fn scan_seek(scan: Scan, starts: &[i64], ends: &[u64], steps: &[i16], target
             steps.len(),
             target,
         )
-    }
+    };
+    paired(&moved)
 }
 
 /// To another window of the column, fresh, answering none; or refused 100, 1, 2, 3, 6, 5.
