@@ -14,8 +14,8 @@ use Rattle.keys.specs.Widths.{half64}
 use Rattle.keys.proofs.Bits.{back}
 use Rattle.keys.proofs.Widths.{product-le, mag-product}
 use Rattle.checked.proofs.Turning.{half-short, turned-sure}
-use Rattle.checked.proofs.turned.Statement.{statement}
-use Rattle.checked.proofs.turned.Tie as tie
+use Rattle.checked.proofs.quick.turned.Statement.{statement}
+use Rattle.checked.proofs.quick.turned.Tie as tie
 
 abbrev k : tie.Start → ℕ
 k c = bitAnd (c .args .end - c .args .low - 1) 4294967295

@@ -13,8 +13,8 @@ use Rattle.meaning.specs.Contracts.{columnNow}
 use Rattle.meaning.proofs.Soundness.{Shaped, shape-parts, Sure, sure-more}
 use Rattle.checked.proofs.Turning.{all-low}
 use borrow.Author.Needs.{needs}
-use Rattle.checked.proofs.turn_fours.Statement.{statement}
-use Rattle.checked.proofs.turn_fours.Tie as tie
+use Rattle.checked.proofs.quick.turn_fours.Statement.{statement}
+use Rattle.checked.proofs.quick.turn_fours.Tie as tie
 
 abbrev Inv-loop : tie.InvT-loop
 Inv-loop starts ends steps low run n last₀ i₀ last i = (n ≡ length ends) × Shaped (columnOf starts ends steps) × Sure (columnOf starts ends steps) last i × (run ≤ i)

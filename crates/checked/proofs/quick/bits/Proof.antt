@@ -5,8 +5,8 @@ use mir.Facts.{toZ-ofZ}
 use borrow.Author.Needs.{needs}
 use Rattle.keys.specs.Key.{key}
 use Rattle.keys.specs.Widths.{half64}
-use Rattle.checked.proofs.bits.Statement.{statement}
-use Rattle.checked.proofs.bits.Tie as tie
+use Rattle.checked.proofs.quick.bits.Statement.{statement}
+use Rattle.checked.proofs.quick.bits.Tie as tie
 
 bias-requires : tie.Need-bias-requires
 bias-requires c κs = search needs
