@@ -3,7 +3,7 @@ ghost use mathlib.Core.Path.{_≡_};
 ghost use mathlib.Core.Bool.{true};
 ghost use lib.ListN.{length};
 ghost use Rattle.meaning.specs.Contracts.{source};
-ghost use Rattle.loftsplice.specs.declared.scan.Move.the-variants.{Next, Seek};
+ghost use Rattle.loftsplice.specs.declared.scan.Move.the-variants.{Next};
 ghost use Rattle.filter_interval.specs.Filter.{filterCurrentOf};
 ghost use Rattle.filter_interval.specs.Asking.{askedOf};
 ghost use Rattle.c_forms.specs.Answer.{flatAnswer};
@@ -91,9 +91,9 @@ fn asked_of(
     ask(filter, step, lower, upper, inputs)
 }
 
-// A next or a seek; or refused 100, 1, 2, 3, 6, 8, 7, 9. One function for both, so that a filter is taken apart and put together again inside it:
-// through memory, each copy of a bound is read back slowly.
-fn call(
+// A next or a seek; or refused 100, 1, 2, 3, 6, 8, 7, 9. A filter is taken apart and put together again inside it: through memory, each copy of a bound
+// is read back slowly. For the same reason crate `c_filter_seek` has the seek: of one caller each, it is compiled into either.
+pub fn call(
     filter: FlatFilter,
     starts: &[i64],
     ends: &[u64],
@@ -137,39 +137,6 @@ pub extern "C" fn loftsplice_filter_next(
     ensures { λ r. ⌜ r ≡ callFilter (source starts ends steps) Next (lists lows lowkinds ups upkinds values found) filter ⌝ }
 {
     let step = Move::Next;
-    call(
-        filter,
-        starts,
-        ends,
-        steps,
-        step,
-        lows,
-        lowkinds,
-        ups,
-        upkinds,
-        values,
-        found,
-    )
-}
-
-// The first element from here on that is not below the target and meets the bounds, or none; or refused 100, 1, 2, 3, 6, 8, 7, 9.
-#[no_mangle]
-pub extern "C" fn loftsplice_filter_seek(
-    filter: FlatFilter,
-    starts: &[i64],
-    ends: &[u64],
-    steps: &[i16],
-    target: i64,
-    lows: &[u64],
-    lowkinds: &[u8],
-    ups: &[u64],
-    upkinds: &[u8],
-    values: &[i64],
-    found: &[u8],
-) -> FlatSifted
-    ensures { λ r. ⌜ r ≡ callFilter (source starts ends steps) (Seek target) (lists lows lowkinds ups upkinds values found) filter ⌝ }
-{
-    let step = Move::Seek(target);
     call(
         filter,
         starts,

@@ -1,8 +1,8 @@
--- `calls::loftsplice_filter_seek` meets its contract. Assumes nothing.
+-- `loftsplice_filter_seek` meets its contract. Assumes nothing.
 use mir.Facts.{toZ-ofZ}
 use borrow.Author.Needs.{needs}
-use Rattle.c_filter.proofs.calls.loftsplice_filter_seek.Statement.{statement}
-use Rattle.c_filter.proofs.calls.loftsplice_filter_seek.Tie as tie
+use Rattle.c_filter_seek.proofs.loftsplice_filter_seek.Statement.{statement}
+use Rattle.c_filter_seek.proofs.loftsplice_filter_seek.Tie as tie
 
 call-requires : tie.Need-call-requires
 call-requires c κs = search needs
