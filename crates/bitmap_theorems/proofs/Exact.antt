@@ -13,7 +13,8 @@ use Rattle.meaning.proofs.Judging.{gives-clear}
 use Rattle.meaning.proofs.Tried.{refuses, refused-exactly, refused-in, given-exactly, clear-gives}
 use Rattle.bits.specs.Bitmap.{present, countFor, bytesFor}
 use Rattle.build.specs.Rule.{runsOf}
-use Rattle.exporting.specs.Export.{allRecords, exportOf}
+use Rattle.recorded.specs.Records.{allRecords}
+use Rattle.exporting.specs.Export.{exportOf}
 use Rattle.importing.specs.Import.{presentIn, Imports, importOf}
 
 given-same : {A : Type 0} {a b : A} → Gives a ≡ Gives b → a ≡ b

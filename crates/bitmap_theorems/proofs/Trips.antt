@@ -26,7 +26,8 @@ use Rattle.bits.proofs.Exact.{bitmap-long, bitmap-says}
 use Rattle.build.specs.Rule.{runsOf, builtFrom}
 use Rattle.build.proofs.Rule.{same-self}
 use Rattle.build.proofs.Columns.{least-column, built-size, built-elements, built-sound}
-use Rattle.exporting.specs.Export.{isRecord, allRecords, carriesRecord, exportOf, exportedBytes}
+use Rattle.recorded.specs.Records.{isRecord, allRecords, carriesRecord}
+use Rattle.exporting.specs.Export.{exportOf, exportedBytes}
 use Rattle.importing.specs.Import.{recordsFor, recordsIn, presentIn, importedColumn, Imports, importOf}
 use Rattle.importing.proofs.Records.{records-here, records-none, records-skip, records-length}
 use Rattle.bitmap_theorems.proofs.Listed.{element-at, Entry, entry, entries-rise, entered, all-entries}

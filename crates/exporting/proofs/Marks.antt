@@ -16,7 +16,8 @@ use Rattle.ranges.proofs.Bools.{either, clash, same, and-left, and-right, and-b
 use Rattle.ranges.proofs.Spans.{in-all, all-next}
 use Rattle.bits.specs.Bitmap.{digit, isSet, present}
 use Rattle.bits.proofs.Digits.{digit-lt}
-use Rattle.exporting.specs.Inner.{inSteps, Marked}
+use Rattle.recorded.specs.Inner.{inSteps}
+use Rattle.exporting.specs.Inner.{Marked}
 
 -- ---- a table of tests, computed
 

@@ -15,7 +15,8 @@ use Rattle.ranges.proofs.Spans.{all-in, not-all-in, lt-or-ge}
 use Rattle.bits.specs.Bitmap.{isSet, bitmapOf}
 use Rattle.exporting.proofs.Marks.{one-shifted, set-below, set-from, set-and, mark-whole, mark-as, mark-none, mark-both}
 use Rattle.bits.proofs.Exact.{bitmap-is, none-present, zeros}
-use Rattle.exporting.specs.Inner.{inSteps, inSpan, Marked}
+use Rattle.recorded.specs.Inner.{inSteps}
+use Rattle.exporting.specs.Inner.{inSpan, Marked}
 
 -- ---- spans
 

@@ -1,28 +1,14 @@
 -- Document 02, request 3: "Export writes the bitmap of a rising column, with zeros past the count in its last byte, and answers the bytes written."
 -- Assumes nothing.
 use Prim.Native.Nat.{ℕ}
-use mathlib.Core.Bool.{Bool, not, _&&_}
+use mathlib.Core.Bool.{not}
 use mathlib.Core.List.{List, [], _∷_}
 use lib.Dec.{ltb}
-use lib.IntN.{ℤ, pos}
-use lib.Signed.{ltZ}
-use Rattle.ranges.specs.Ranges.{allIn}
 use Rattle.meaning.specs.declared.Refusal.the-variants.{Shape, Ends, Reach, Order, Room, Count, Range}
 use Rattle.meaning.specs.Refusals.{Said, Gives, Number, Trial, tried}
-use Rattle.meaning.specs.Sequence.{Sequence, Source, carries, rises}
+use Rattle.meaning.specs.Sequence.{Source, rises}
 use Rattle.bits.specs.Bitmap.{bytesFor, bitmapOf}
-
--- whether a number is a record number, of count records
-unfoldable pub isRecord : ℕ → ℤ → Bool
-isRecord count z = not (ltZ z (pos 0)) && ltZ z (pos count)
-
--- whether each element is one
-unfoldable pub allRecords : ℕ → Sequence → Bool
-allRecords count q = allIn (λ k. isRecord count (q .at k)) 0 (q .size)
-
--- whether record i is an element
-abbrev pub carriesRecord : Sequence → ℕ → Bool
-carriesRecord q i = carries q (pos i)
+use Rattle.recorded.specs.Records.{allRecords, carriesRecord}
 
 -- "14 COUNT for more records than that, before all others; .. on export then 1, 2, 3, 7 for a column that doesn't rise, 15 RANGE for an element
 -- that is no record number, 10"

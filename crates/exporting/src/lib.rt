@@ -8,17 +8,15 @@ ghost use Rattle.meaning.specs.Contracts.{columnNow, source, Leaves};
 ghost use Rattle.bits.specs.Bitmap.{bytesFor};
 ghost use Rattle.exporting.specs.Export.{exportedBytes};
 ghost use Rattle.exporting.specs.Says.{saysExported, exporting};
-ghost use Rattle.exporting.specs.Inner.{allFit, exportingSound};
+ghost use Rattle.recorded.specs.Inner.{allFit};
+ghost use Rattle.exporting.specs.Inner.{exportingFit};
 use crate::marking::clear;
 use crate::marking::mark_runs;
-use crate::placing::fits;
-use crate::placing::ordered;
 use checked::Checked;
-use checked::check;
 use meaning::Refusal;
+use recorded::check_records;
 
 pub mod marking;
-pub mod placing;
 
 // The bytes written, or a refusal.
 pub enum Exported {
@@ -37,19 +35,14 @@ fn fill(starts: &[i64], ends: &[u64], steps: &[i16], count: u64, bytes: &mut [u8
     mark_runs(starts, ends, steps, count, bytes);
 }
 
-// The export of a sound column: refused 7, 15, 10, or given.
-fn export_sound(starts: &[i64], ends: &[u64], steps: &[i16], count: u64, out: &mut [u8]) -> Exported
+// The export of a column that passed all tests but the last: refused 10, or given.
+fn export_fit(starts: &[i64], ends: &[u64], steps: &[i16], count: u64, out: &mut [u8]) -> Exported
     requires { ⌜ sound (columnNow starts ends steps) ≡ true ⌝ }
+    requires { ⌜ allFit (columnNow starts ends steps) count ≡ true ⌝ }
     requires { ⌜ count ≤ 524288 ⌝ }
-    ensures { λ r. ⌜ saysExported r ≡ exportingSound (source starts ends steps) count out ⌝ }
+    ensures { λ r. ⌜ saysExported r ≡ exportingFit count out ⌝ }
     ensures { λ r. ⌜ Leaves out (saysExported r) (exportedBytes (source starts ends steps) count) ⌝ }
 {
-    if !fits(starts, ends, steps, count) {
-        if ordered(starts, ends, steps) {
-            return Exported::Refused(Refusal::Range);
-        }
-        return Exported::Refused(Refusal::Order);
-    }
     let used = ((count + 7) >> 3) as usize;
     if out.len() < used {
         return Exported::Refused(Refusal::Room);
@@ -66,8 +59,8 @@ pub fn export(starts: &[i64], ends: &[u64], steps: &[i16], count: u64, out: &mut
     if 524288 < count {
         return Exported::Refused(Refusal::Count);
     }
-    match check(starts, ends, steps) {
+    match check_records(starts, ends, steps, count) {
         Checked::Refused(why) => Exported::Refused(why),
-        Checked::Fine => export_sound(starts, ends, steps, count, out),
+        Checked::Fine => export_fit(starts, ends, steps, count, out),
     }
 }

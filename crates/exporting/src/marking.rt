@@ -7,8 +7,9 @@ ghost use lib.ListN.{length, replicate};
 ghost use Rattle.meaning.specs.Column.{sound};
 ghost use Rattle.meaning.specs.Contracts.{columnNow, sequence};
 ghost use Rattle.bits.specs.Bitmap.{isSet};
-ghost use Rattle.exporting.specs.Export.{carriesRecord};
-ghost use Rattle.exporting.specs.Inner.{inSteps, inSpan, Marked, Inside, allFit};
+ghost use Rattle.recorded.specs.Records.{carriesRecord};
+ghost use Rattle.recorded.specs.Inner.{inSteps, allFit};
+ghost use Rattle.exporting.specs.Inner.{inSpan, Marked, Inside};
 use keys::bias;
 use keys::size16;
 

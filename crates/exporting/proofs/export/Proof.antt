@@ -2,8 +2,8 @@
 use mathlib.Core.Path.{refl}
 use Rattle.meaning.specs.Contracts.{columnNow}
 use Rattle.meaning.specs.Column.{Column, sourceOf}
-use Rattle.checked.proofs.Told.{was-fine, was-refused, was-sound}
-use Rattle.exporting.proofs.Cases.{says-count, says-checked, says-sound}
+use Rattle.recorded.proofs.Cases.{records-clear, clear-sound, clear-fit}
+use Rattle.exporting.proofs.Cases.{says-count, says-refused, says-fit}
 use borrow.Author.Needs.{needs}
 use Rattle.exporting.proofs.export.Statement.{statement}
 use Rattle.exporting.proofs.export.Tie as tie
@@ -14,8 +14,8 @@ col s = columnNow (s .args .starts) (s .args .ends) (s .args .steps)
 returns : tie.Need-returns
 returns c = (says-count _ _ _ (c .if1 .taken), refl)
 
-check-requires : tie.Need-check-requires
-check-requires c κs = search needs
+check-records-requires : tie.Need-check-records-requires
+check-records-requires c κs = search needs
 
 enum-known-why : tie.Need-enum-known-why
 enum-known-why c = search needs
@@ -23,20 +23,26 @@ enum-known-why c = search needs
 enum-told : tie.Need-enum-told
 enum-told c = search needs
 
-export-sound-requires : tie.Need-export-sound-requires
-export-sound-requires c κs =
+-- at the check
+module _ (k : tie.After-check-records) where
+  abbrev low : tie.Else1
+  low = k .before
+
+  abbrev st : tie.Start
+  st = low .before .before .before
+
+export-fit-requires : tie.Need-export-fit-requires
+export-fit-requires c κs =
     let t = c .before in
     let k = t .before .before in
-    let e = k .before in
-    let s = e .before .before .before in
-    (was-sound (col s) (k .check .result) (k .check .ensures) (t .enum-told .given .1), e .if1 .left)
+    let clear = records-clear (sourceOf (col (st k))) (st k .args .count) (k .check-records .result) (k .check-records .ensures) (t .enum-told .given .1) in
+    (clear-sound (col (st k)) (st k .args .count) clear, (clear-fit (col (st k)) (st k .args .count) clear, low k .if1 .left))
 
 returns-2 : tie.Need-returns-2
 returns-2 c =
     let w = c .before in
     let k = w .before .before in
-    let e = k .before in
-    (says-checked _ _ _ (e .if1 .left) _ (was-refused _ _ (k .check .ensures) _ (w .why .given .1)), refl)
+    (says-refused _ _ _ (low k .if1 .left) (k .check-records .result) (k .check-records .ensures) _ (w .why .given .1), refl)
 
 same-length : tie.Need-same-length
 same-length c = search needs
@@ -46,9 +52,7 @@ returns-3 c =
     let x = c .before .before in
     let t = x .before .before in
     let k = t .before .before in
-    let e = k .before in
-    let s = e .before .before .before in
-    (says-sound _ _ _ (e .if1 .left) _ (was-fine (sourceOf (col s)) (k .check .result) (k .check .ensures) (t .enum-told .given .1)) (x .export-sound .ensures .0), x .export-sound .ensures .1)
+    (says-fit (sourceOf (col (st k))) _ _ (low k .if1 .left) (k .check-records .result) (k .check-records .ensures) _ (t .enum-told .given .1) (x .export-fit .ensures .0), x .export-fit .ensures .1)
 
 pub export-spec : {M : Type 1} → statement M
-export-spec = tie.close (tie.spec returns check-requires enum-known-why enum-told export-sound-requires returns-2 same-length returns-3)
+export-spec = tie.close (tie.spec returns check-records-requires enum-known-why enum-told export-fit-requires returns-2 same-length returns-3)

@@ -5,7 +5,7 @@ use lib.ListN.{length, length-replicate}
 use Rattle.meaning.specs.Contracts.{columnNow}
 use Rattle.meaning.specs.Column.{sequenceOf}
 use Rattle.bits.specs.Bitmap.{bitmapOf}
-use Rattle.exporting.specs.Export.{carriesRecord}
+use Rattle.recorded.specs.Records.{carriesRecord}
 use Rattle.exporting.proofs.Spans.{written}
 use borrow.Author.Needs.{needs}
 use Rattle.exporting.proofs.fill.Statement.{statement}

@@ -13,11 +13,13 @@ use Rattle.meaning.specs.Contracts.{columnNow}
 use Rattle.meaning.specs.Column.{Column, columnOf, startOf, stepOf, endBefore, sequenceOf}
 use Rattle.meaning.proofs.Runs.{before-zero, before-next}
 use Rattle.meaning.proofs.Soundness.{Sound, sound-parts}
-use Rattle.exporting.specs.Export.{carriesRecord}
-use Rattle.exporting.specs.Inner.{Marked, firstAt, moreOf, floorOf}
+use Rattle.recorded.specs.Records.{carriesRecord}
+use Rattle.recorded.specs.Inner.{firstAt, moreOf, floorOf}
+use Rattle.exporting.specs.Inner.{Marked}
 use Rattle.exporting.proofs.Marks.{mark-as}
-use Rattle.exporting.proofs.Fitting.{fit-at, fit-key}
-use Rattle.exporting.proofs.Carrying.{carriesTo, carries-all, carries-none, run-room, mark-next}
+use Rattle.recorded.proofs.Fitting.{fit-at, fit-key}
+use Rattle.recorded.proofs.Carried.{carriesTo, carries-all}
+use Rattle.exporting.proofs.Carrying.{carries-none, run-room, mark-next}
 use borrow.Author.Needs.{needs}
 use Rattle.exporting.proofs.marking.mark_runs.Statement.{statement}
 use Rattle.exporting.proofs.marking.mark_runs.Tie as tie

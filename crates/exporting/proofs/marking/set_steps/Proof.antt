@@ -5,7 +5,8 @@ use native.Mathlib.Omega.{arith}
 use borrow.Author.Needs.{needs}
 use lib.Dec.{eqb}
 use Rattle.ranges.specs.Ranges.{allFor}
-use Rattle.exporting.specs.Inner.{inSteps, Marked}
+use Rattle.recorded.specs.Inner.{inSteps}
+use Rattle.exporting.specs.Inner.{Marked}
 use Rattle.exporting.proofs.Marks.{mark-none, mark-step, mark-as, next-at, last-at}
 use Rattle.exporting.proofs.marking.set_steps.Statement.{statement}
 use Rattle.exporting.proofs.marking.set_steps.Tie as tie

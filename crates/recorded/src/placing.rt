@@ -1,11 +1,11 @@
 // Whether the elements of a column rise and are record numbers, run by run.
 ghost use mathlib.Core.Path.{_≡_};
 ghost use mathlib.Core.Bool.{true};
-ghost use Prim.Native.Nat.{_≤_, _<_};
+ghost use Prim.Native.Nat.{_<_};
 ghost use Rattle.meaning.specs.Sequence.{rises};
 ghost use Rattle.meaning.specs.Column.{sizeOf, sound};
 ghost use Rattle.meaning.specs.Contracts.{column, columnNow, sequence};
-ghost use Rattle.exporting.specs.Inner.{risesBy, climbOf, allFit};
+ghost use Rattle.recorded.specs.Inner.{risesBy, climbOf, allFit};
 use keys::bias;
 use keys::is_down;
 use keys::size16;
@@ -28,17 +28,21 @@ fn goes_up(step: i16, more: u64) -> bool
 
 // One more than a run's last element, or 0 where the run begins below the floor, does not rise, or reaches the count.
 fn climb(start: i64, step: i16, more: u64, floor: u64, count: u64) -> u64
-    requires { ⌜ (more < 4294967296) × (floor ≤ 524288) × (count ≤ 524288) ⌝ }
+    requires { ⌜ more < 4294967296 ⌝ }
     ensures { λ r. ⌜ r ≡ climbOf start step more floor count ⌝ }
 {
     let from = bias(start);
-    if from < 9223372036854775808 + floor {
+    if from < 9223372036854775808 {
+        return 0;
+    }
+    let first = from - 9223372036854775808;
+    if first < floor {
         return 0;
     }
     if !goes_up(step, more) {
         return 0;
     }
-    let last = from - 9223372036854775808 + size16(step) * more;
+    let last = first + size16(step) * more;
     if count <= last {
         return 0;
     }
@@ -48,7 +52,6 @@ fn climb(start: i64, step: i16, more: u64, floor: u64, count: u64) -> u64
 // Whether all runs rise, one above the other, within the record numbers.
 pub(crate) fn fits(starts: &[i64], ends: &[u64], steps: &[i16], count: u64) -> bool
     requires { ⌜ sound (columnNow starts ends steps) ≡ true ⌝ }
-    requires { ⌜ count ≤ 524288 ⌝ }
     ensures { λ r. ⌜ r ≡ allFit (column starts ends steps) count ⌝ }
 {
     let mut floor = 0u64;

@@ -4,10 +4,10 @@ use Rattle.meaning.specs.Contracts.{columnNow}
 use Rattle.meaning.specs.Column.{Column, sourceOf}
 use Rattle.meaning.proofs.Judging.{Passes, sound-passes}
 use Rattle.loftsplice.specs.Scan.{saysAnswer}
-use Rattle.exporting.proofs.Ordered.{new-not, told-flat, told-up}
+use Rattle.recorded.proofs.Ordered.{new-not, told-flat, told-up}
 use borrow.Author.Needs.{needs}
-use Rattle.exporting.proofs.placing.ordered.Statement.{statement}
-use Rattle.exporting.proofs.placing.ordered.Tie as tie
+use Rattle.recorded.proofs.placing.ordered.Statement.{statement}
+use Rattle.recorded.proofs.placing.ordered.Tie as tie
 
 abbrev col : tie.Start → Column
 col s = columnNow (s .args .starts) (s .args .ends) (s .args .steps)

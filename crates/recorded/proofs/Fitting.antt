@@ -9,21 +9,21 @@ use native.Mathlib.Nat.{le-refl, mul-le-mul-left}
 use borrow.Author.Tests.{ltb-true, ltb-false, lt-ltb, le-ltb, eqb-false, ne-eqb}
 use lib.Dec.{eqb, ltb}
 use lib.IntN.{ℤ, pos, negsuc, natAbs, _+ℤ_}
-use lib.Signed.{mag, ltZ}
+use lib.Signed.{ltZ}
 use Rattle.ranges.proofs.Bools.{either, and-left, and-right, and-both, not-no, not-yes}
 use Rattle.ranges.proofs.Reading.{same-test, and-none}
 use Rattle.ranges.proofs.Spans.{in-all, all-in, lt-or-ge}
 use Rattle.keys.specs.Key.{key, down}
 use Rattle.keys.specs.Widths.{half64}
-use Rattle.keys.proofs.Keys.{step-up, lt-key}
+use Rattle.keys.proofs.Keys.{step-up}
 use Rattle.meaning.specs.Sequence.{rises}
 use Rattle.meaning.specs.Column.{Column, runs, sizeOf, startOf, stepOf, endOf, endBefore, offset, runOf, elementAt, sequenceOf}
 use Rattle.meaning.proofs.Runs.{before-suc, run-there, run-above, run-from, end-le-before}
 use Rattle.meaning.proofs.Elements.{offset-zero}
 use Rattle.meaning.proofs.Soundness.{Sound}
 use Rattle.meaning.proofs.Rise.{Meets, RunRises, lastOf, run-next, at-in, at-first, rises-if, rises-only}
-use Rattle.exporting.specs.Export.{isRecord, allRecords}
-use Rattle.exporting.specs.Inner.{firstAt, lastAt, risesBy, fitsAt, climbOf, moreOf, floorOf, runFits, allFit}
+use Rattle.recorded.specs.Records.{isRecord, allRecords}
+use Rattle.recorded.specs.Inner.{firstAt, lastAt, risesBy, fitsAt, climbOf, moreOf, floorOf, runFits, allFit}
 
 -- ---- one run
 
@@ -132,10 +132,17 @@ pub climb-told : (c : Column) (r low floor count : ℕ) (s d : ℤ) → s ≡ st
     → climbOf s d (endOf c r - low - 1) floor count ≡ climbOf (startOf c r) (stepOf c r) (moreOf c r) (floorOf c r) count
 climb-told c r low floor count s d a b e f = rw (a, b, e, f)
 
--- `bias(s) < 2^63 + floor`
-pub floor-test : (s : ℤ) (floor : ℕ) → mag s < half64 → floor < half64 → ltZ s (pos floor) ≡ ltb (key half64 s) (half64 + floor)
+-- `bias(s) < 2^63`: below every floor
+pub below-floors : (s : ℤ) (floor : ℕ) → key half64 s < half64 → ltZ s (pos floor) ≡ true
 unfolding key
-floor-test s floor l m = lt-key half64 s (pos floor) l m
+below-floors (pos n) floor l = absurd (omega arith)
+below-floors (negsuc n) floor l = refl
+
+-- `bias(s) - 2^63 < floor`
+pub floor-test : (s : ℤ) (floor : ℕ) → half64 ≤ key half64 s → ltZ s (pos floor) ≡ ltb (firstAt s) floor
+unfolding key
+floor-test (pos n) floor l = let e : n ≡ half64 + n - half64 = omega arith in ap (λ x. ltb x floor) e
+floor-test (negsuc n) floor l = absurd (omega arith)
 
 -- ---- all runs
 

@@ -6,11 +6,11 @@ use lib.IntN.{natAbs}
 use mathlib.Core.Bool.{not}
 use mir.Facts.{toZ-ofZ}
 use Rattle.keys.specs.Key.{down}
-use Rattle.exporting.specs.Inner.{risesBy}
-use Rattle.exporting.proofs.Fitting.{some-size}
+use Rattle.recorded.specs.Inner.{risesBy}
+use Rattle.recorded.proofs.Fitting.{some-size}
 use borrow.Author.Needs.{needs}
-use Rattle.exporting.proofs.placing.goes_up.Statement.{statement}
-use Rattle.exporting.proofs.placing.goes_up.Tie as tie
+use Rattle.recorded.proofs.placing.goes_up.Statement.{statement}
+use Rattle.recorded.proofs.placing.goes_up.Tie as tie
 
 of-sign : (c : tie.After-is-down) → c .is-down .result ≡ down (c .before .before .args .step)
 of-sign c = c .is-down .ensures ∙ ap down (toZ-ofZ (c .before .before .fits .step))

@@ -13,15 +13,15 @@ use Rattle.meaning.specs.Contracts.{columnNow}
 use Rattle.meaning.specs.Column.{Column, columnOf, startOf, stepOf, endBefore}
 use Rattle.meaning.proofs.Runs.{before-zero, before-next}
 use Rattle.meaning.proofs.Soundness.{Sound, sound-parts}
-use Rattle.exporting.specs.Inner.{climbOf, moreOf, floorOf, runFits, allFit}
-use Rattle.exporting.proofs.Fitting.{climb-told, climbed, climbed-on, fit-last}
+use Rattle.recorded.specs.Inner.{climbOf, moreOf, floorOf, runFits, allFit}
+use Rattle.recorded.proofs.Fitting.{climb-told, climbed, climbed-on}
 use borrow.Author.Needs.{needs}
-use Rattle.exporting.proofs.placing.fits.Statement.{statement}
-use Rattle.exporting.proofs.placing.fits.Tie as tie
+use Rattle.recorded.proofs.placing.fits.Statement.{statement}
+use Rattle.recorded.proofs.placing.fits.Tie as tie
 
 abbrev Inv-loop : tie.InvT-loop
 Inv-loop starts ends steps count floor₀ low₀ r₀ floor low r =
-    (r ≤ length ends) × (low ≡ endBefore ends r) × (floor ≡ floorOf (columnOf starts ends steps) r) × (floor ≤ 524288) × ((k : ℕ) → k < r → runFits (columnOf starts ends steps) count k ≡ true)
+    (r ≤ length ends) × (low ≡ endBefore ends r) × (floor ≡ floorOf (columnOf starts ends steps) r) × ((k : ℕ) → k < r → runFits (columnOf starts ends steps) count k ≡ true)
 
 abbrev μ-loop : tie.MeasureT-loop
 μ-loop starts ends steps count floor₀ low₀ r₀ floor low r = length ends - r
@@ -33,7 +33,7 @@ abbrev col : tie.Start Inv-loop μ-loop → Column
 col s = columnNow (s .args .starts) (s .args .ends) (s .args .steps)
 
 good : (s : tie.Start Inv-loop μ-loop) → Sound (col s)
-good s = sound-parts (col s) (s .pre .0)
+good s = sound-parts (col s) (s .pre)
 
 -- in a turn
 module _ (c : tie.In-loop Inv-loop μ-loop) where
@@ -66,7 +66,7 @@ module _ (c : tie.After-climb Inv-loop μ-loop) where
 
 loop-holds : tie.Need-loop-holds Inv-loop μ-loop
 unfolding floorOf
-loop-holds c = (omega arith, before-zero (c .before .args .ends .now) {r = 0} refl, refl, omega arith, λ k l. absurd (omega arith))
+loop-holds c = (omega arith, before-zero (c .before .args .ends .now) {r = 0} refl, refl, λ k l. absurd (omega arith))
 
 mul-end : tie.Need-mul-end Inv-loop μ-loop
 mul-end c = search needs
@@ -93,7 +93,7 @@ sub-climb-2 : tie.Need-sub-climb-2 Inv-loop μ-loop
 sub-climb-2 c = omega (arith, rise (c .before .before .before))
 
 climb-requires : tie.Need-climb-requires Inv-loop μ-loop
-climb-requires c κs = (omega (arith, most (c .before .before .before)), omega arith, omega arith)
+climb-requires c κs = omega (arith, most (c .before .before .before))
 
 returns : tie.Need-returns Inv-loop μ-loop
 unfolding allFit runFits
@@ -111,14 +111,13 @@ loop-less c = search needs
 
 -- the run fits, and the next floor is above its last element
 passed : (c : tie.Else1 Inv-loop μ-loop) → let m = c .before in let a = at m in
-    (runFits (k m) (start a .args .count) (a .loop .r) ≡ true) × (m .climb .result ≡ floorOf (k m) (a .loop .r + 1)) × (m .climb .result ≤ 524288)
+    (runFits (k m) (start a .args .count) (a .loop .r) ≡ true) × (m .climb .result ≡ floorOf (k m) (a .loop .r + 1))
 unfolding runFits floorOf
 passed c =
     let m = c .before in
     let a = at m in
     let on = climbed-on (startOf (k m) (a .loop .r)) (stepOf (k m) (a .loop .r)) (moreOf (k m) (a .loop .r)) (floorOf (k m) (a .loop .r)) (start a .args .count) (λ z. c .if1 .left (found m ∙ z)) in
-    let below = fit-last (startOf (k m) (a .loop .r)) (stepOf (k m) (a .loop .r)) (moreOf (k m) (a .loop .r)) (floorOf (k m) (a .loop .r)) (start a .args .count) (on .0) in
-    (on .0, found m ∙ on .1 ∙ ap (floorOf (k m)) (sym (add-one (a .loop .r))), omega (arith, found m, on .1, below))
+    (on .0, found m ∙ on .1 ∙ ap (floorOf (k m)) (sym (add-one (a .loop .r))))
 
 loop-again : tie.Need-loop-again Inv-loop μ-loop
 loop-again c =
@@ -127,15 +126,14 @@ loop-again c =
       omega arith,
       before-next (start a .args .ends .now) (a .loop .r),
       passed c .1,
-      passed c .2,
-      below-more (λ j. runFits (k m) (start a .args .count) j ≡ true) (a .loop .r) (a .loop .inv .4) (passed c .0),
+      below-more (λ j. runFits (k m) (start a .args .count) j ≡ true) (a .loop .r) (a .loop .inv .3) (passed c .0),
     )
 
 returns-2 : tie.Need-returns-2 Inv-loop μ-loop
 unfolding allFit
 returns-2 c =
     let a = c .before in
-    sym (all-in (runFits (col (start a)) (start a .args .count)) 0 (length (start a .args .ends .now)) (λ j m l. a .loop .inv .4 j (omega arith)))
+    sym (all-in (runFits (col (start a)) (start a .args .count)) 0 (length (start a .args .ends .now)) (λ j m l. a .loop .inv .3 j (omega arith)))
 
 pub fits-spec : {M : Type 1} → statement M
 fits-spec = tie.close (tie.spec Inv-loop μ-loop loop-holds mul-end shared-slice-read-end mul-climb shared-slice-copy-out-climb mul-climb-2 shared-slice-copy-out-climb-2 sub-climb sub-climb-2 climb-requires returns add-r loop-less loop-again returns-2)

@@ -1,0 +1,5 @@
+pub mod Fitting
+pub mod Ordered
+pub mod Cases
+pub mod Carried
+pub mod Floors
