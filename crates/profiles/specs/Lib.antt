@@ -1,0 +1,3 @@
+pub mod Profiles
+pub mod Says
+pub mod Inner
