@@ -33,7 +33,10 @@ returns-2 c =
     (says-listed (s .args .count) (s .args .end) (room s) (listed s) 0 (e .if1 .left) (omega (arith, ap length z)) (sym (ap length z)), sym (ap (λ l. l ++ drop (length l) (s .args .out .now)) z))
 
 count-sought-requires : tie.Need-count-sought-requires
-count-sought-requires c κs = let s = c .before .before .before .before in (s .pre, (omega arith, omega arith))
+count-sought-requires c κs =
+    let e = c .before in
+    let s = e .before .before .before in
+    (s .pre, (omega arith, omega arith))
 
 -- the number
 module _ (c : tie.After-count-sought) where

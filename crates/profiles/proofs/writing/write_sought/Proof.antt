@@ -4,7 +4,10 @@ use Rattle.profiles.proofs.writing.write_sought.Statement.{statement}
 use Rattle.profiles.proofs.writing.write_sought.Tie as tie
 
 write-elements-requires : tie.Need-write-elements-requires
-write-elements-requires c κs = let s = c .before .before .before .before in (s .pre .0, (s .pre .1 .0, rw (c .before .if1 .taken) at (s .pre .1 .1)))
+write-elements-requires c κs =
+    let e = c .before in
+    let s = e .before .before .before in
+    (s .pre .0, (s .pre .1 .0, rw (e .if1 .taken) at (s .pre .1 .1)))
 
 same-length : tie.Need-same-length
 same-length c = search needs
@@ -16,7 +19,10 @@ returns c =
     rw (t .if1 .taken) (w .write-elements .ensures)
 
 write-others-requires : tie.Need-write-others-requires
-write-others-requires c κs = let s = c .before .before .before .before in (s .pre .0, (s .pre .1 .0, rw (c .before .if1 .left) at (s .pre .1 .1)))
+write-others-requires c κs =
+    let e = c .before in
+    let s = e .before .before .before in
+    (s .pre .0, (s .pre .1 .0, rw (e .if1 .left) at (s .pre .1 .1)))
 
 same-length-2 : tie.Need-same-length-2
 same-length-2 c = search needs

@@ -25,8 +25,16 @@ module _ (c : tie.Else1) where
   first-is : c .before .bias .result - 9223372036854775808 ≡ firstAt (c .before .before .args .start)
   first-is = ap (λ x. x - 9223372036854775808) (of-start (c .before))
 
-of-up : (c : tie.After-goes-up) → let s = c .before .before .before .before in c .goes-up .result ≡ risesBy (s .args .step) (s .args .more)
-of-up c = let s = c .before .before .before .before in c .goes-up .ensures ∙ ap (λ z. risesBy z (s .args .more)) (toZ-ofZ (s .fits .step))
+-- whether it goes up
+module _ (c : tie.After-goes-up) where
+  abbrev above-floor : tie.Else2
+  above-floor = c .before
+
+  abbrev st-up : tie.Start
+  st-up = above-floor .before .before .before
+
+  of-up : c .goes-up .result ≡ risesBy (st-up .args .step) (st-up .args .more)
+  of-up = c .goes-up .ensures ∙ ap (λ z. risesBy z (st-up .args .more)) (toZ-ofZ (st-up .fits .step))
 
 -- the last element
 module _ (c : tie.After-size16) where
