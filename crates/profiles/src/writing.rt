@@ -81,8 +81,8 @@ fn beyond(at: u64, first: u64, step: u64, n: u64) -> u64
 
 // And what they are: those before the first number, then those between neighbours.
 fn fill_past(out: &mut [u64], at: u64, first: u64, step: u64, n: u64)
-    requires { ⌜ Ahead at first step n ⌝ }
     requires { ⌜ length (now out) ≡ length (pastOf at first step n) ⌝ }
+    requires { ⌜ Ahead at first step n ⌝ }
     ensures { λ _. ⌜ now (out .exit) ≡ pastOf at first step n ⌝ }
 {
     if n == 0 {

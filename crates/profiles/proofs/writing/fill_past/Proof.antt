@@ -19,19 +19,19 @@ module _ (c : tie.Else1) where
   some = some-of (st .args .n) (c .if1 .left)
 
   above : st .args .at ≤ st .args .first
-  above = st .pre .0 .above some
+  above = st .pre .1 .above some
 
   last : st .args .first + st .args .step * (st .args .n - 1) < 4294967295
-  last = st .pre .0 .last some
+  last = st .pre .1 .last some
 
   long : length (st .args .out .now) ≡ st .args .first - st .args .at + (st .args .step - 1) * (st .args .n - 1)
-  long = st .pre .1 ∙ past-long (st .args .at) (st .args .first) (st .args .step) (st .args .n) some
+  long = st .pre .0 ∙ past-long (st .args .at) (st .args .first) (st .args .step) (st .args .n) some
 
 returns : tie.Need-returns
 returns c =
     let s = c .before .before in
     let e = past-none (s .args .at) (s .args .first) (s .args .step) (s .args .n) (c .if1 .taken) in
-    none-long (s .args .out .now) (s .pre .1 ∙ ap length e) ∙ sym e
+    none-long (s .args .out .now) (s .pre .0 ∙ ap length e) ∙ sym e
 
 sub-gap : tie.Need-sub-gap
 sub-gap c = above c
@@ -76,10 +76,10 @@ fill-between-requires c κs =
     let s = c .before in
     let f = s .before .before in
     let t = st (low f) in (
-      t .pre .0 .up .0,
+      t .pre .1 .up .0,
       rest-length (t .args .out .now) _ (t .args .at) _ (gaps f) (long (low f)) (f .fill .ensures),
       last (low f),
-      t .pre .0 .up .1,
+      t .pre .1 .up .1,
     )
 
 same-length : tie.Need-same-length

@@ -118,7 +118,7 @@ part-fill-past-end : tie.Need-part-fill-past-end Inv-loop μ-loop
 part-fill-past-end c = omega (arith, fits c, long (at (run c)))
 
 fill-past-requires : tie.Need-fill-past-requires Inv-loop μ-loop
-fill-past-requires c κs = let k = c .before in (ahead (run k), lent k ∙ k .passed .ensures)
+fill-past-requires c κs = let k = c .before in (lent k ∙ k .passed .ensures, ahead (run k))
 
 beyond-requires : tie.Need-beyond-requires Inv-loop μ-loop
 beyond-requires c κs =
