@@ -15,8 +15,9 @@
  * Threads: the library keeps nothing between calls, has no data of its own that is written, and writes into the lists that are handed over for it and
  * nowhere else. So any number of threads may call at once, also on one column, as long as nobody writes to its lists meanwhile.
  *
- * Cost: each call's comment ends with it. R is the number of runs, W of windows, T of targets, V of values to build from, N of elements written, B of a
- * bitmap's bytes, E of a column's elements; bounds and inputs, of which there are few, count as constant. The O(R) is the check of the whole column that each call on one begins with. The costs are read off the code; answers are proved.
+ * Cost: each call's comment ends with it. R is the number of runs, W of windows, T of targets, V of values to build from, N of elements or
+ * records written, B of a bitmap's bytes, E of a column's elements; bounds and inputs, of which there are few, count as constant. The O(R) is the check
+ * of the whole column that each call on one begins with. The costs are read off the code; answers are proved.
  */
 #ifndef LOFTSPLICE_H
 #define LOFTSPLICE_H
@@ -40,6 +41,7 @@ extern "C" {
 #define LOFTSPLICE_MAX_INPUTS 8                      /* inputs: LOFTSPLICE_BOUNDS */
 #define LOFTSPLICE_MAX_WINDOWS 256                   /* windows of a listing: LOFTSPLICE_BOUNDS */
 #define LOFTSPLICE_MAX_RECORDS 524288                /* records of a bitmap: LOFTSPLICE_COUNT */
+#define LOFTSPLICE_MAX_PROFILE_RECORDS UINT64_C(4294967295) /* records that a profile is read of: LOFTSPLICE_COUNT */
 
 /* ---- numbers */
 
@@ -49,10 +51,10 @@ enum {
                              * LOFTSPLICE_MAX_ELEMENTS values */
     LOFTSPLICE_ENDS = 2,    /* an end is not above the one before (the first: above 0), or is over LOFTSPLICE_MAX_ELEMENTS */
     LOFTSPLICE_REACH = 3,   /* a run's last element is outside i64 */
-    LOFTSPLICE_INDEX = 4,   /* element asked at index >= length; place asked above length */
-    LOFTSPLICE_WINDOW = 5,  /* window end above length */
+    LOFTSPLICE_INDEX = 4,   /* element asked at index >= length; place asked above length; profile: record not below the count */
+    LOFTSPLICE_WINDOW = 5,  /* window end above length; profile: above the count */
     LOFTSPLICE_SCAN = 6,    /* the scan's window end is above length, its index is outside its window, or it does not carry the element that it is at */
-    LOFTSPLICE_ORDER = 7,   /* seek, run of seeks, filter or listing over a window that doesn't rise; export of a column that doesn't */
+    LOFTSPLICE_ORDER = 7,   /* seek, run of seeks, filter or listing over a window that doesn't rise; export or profile of a column that doesn't */
     LOFTSPLICE_BOUNDS = 8,  /* over LOFTSPLICE_MAX_BOUNDS bounds in a list, over LOFTSPLICE_MAX_INPUTS inputs; over LOFTSPLICE_MAX_WINDOWS windows, or
                              * window lists of unequal length */
     LOFTSPLICE_INPUT = 9,   /* Before only: a variable bound names an input that isn't there or has no value */
@@ -60,9 +62,9 @@ enum {
     LOFTSPLICE_CUT = 11,    /* record: fewer than 4 bytes, or fewer than the length says; bitmap: fewer bytes than the count needs */
     LOFTSPLICE_KIND = 12,   /* record: kind is not 1 */
     LOFTSPLICE_SIZE = 13,   /* record: length under 2 or over LOFTSPLICE_MAX_RECORD - 4, or length minus 2 no multiple of 14 */
-    LOFTSPLICE_COUNT = 14,  /* bitmap: over LOFTSPLICE_MAX_RECORDS records */
-    LOFTSPLICE_RANGE = 15,  /* export: an element that is no record number */
-    LOFTSPLICE_PROFILE = 16, /* given by no call yet */
+    LOFTSPLICE_COUNT = 14,  /* bitmap: over LOFTSPLICE_MAX_RECORDS records; profile: over LOFTSPLICE_MAX_PROFILE_RECORDS */
+    LOFTSPLICE_RANGE = 15,  /* export, profile: an element that is no record number */
+    LOFTSPLICE_PROFILE = 16, /* a profile that is neither 1 nor 2 */
     LOFTSPLICE_FALLING = 17, /* given by no call yet */
     LOFTSPLICE_TOTAL = 18,  /* given by no call yet */
     LOFTSPLICE_FORM = 100   /* a number that is no state, kind, mode or found, or two lists that belong together and differ in length */
@@ -107,6 +109,9 @@ enum { LOFTSPLICE_FREE = 0, LOFTSPLICE_INCLUSIVE = 1, LOFTSPLICE_EXCLUSIVE = 2 }
 /* The mode of a filter or listing: which of two upper bounds of one value wins. With "at most 15" beside "below 15" the first lets 15 through, as the
  * Rust does; the second means both. The number is the kind of the bound that wins. Lower bounds are the same in both. */
 enum { LOFTSPLICE_INCLUSIVE_WINS = 1, LOFTSPLICE_EXCLUSIVE_WINS = 2 };
+
+/* The profile by which an optional field's column is read: it lists the records that carry the field, or those that leave it empty. */
+enum { LOFTSPLICE_LISTS_CARRYING = 1, LOFTSPLICE_LISTS_EMPTY = 2 };
 
 /* The state in a scan or filter that was refused when it was made: no state, so that each call on it is refused LOFTSPLICE_FORM. */
 #define LOFTSPLICE_NO_STATE UINT32_C(4294967295)
@@ -264,6 +269,18 @@ typedef struct loftsplice_exported {
     uint64_t bytes;
 } loftsplice_exported;
 
+/* 1 if the record carries the field, else 0. */
+typedef struct loftsplice_carried {
+    uint32_t refusal;
+    uint32_t carries;
+} loftsplice_carried;
+
+/* The number of records written. */
+typedef struct loftsplice_records {
+    uint32_t refusal;
+    uint64_t written;
+} loftsplice_records;
+
 /* ---- layout: these are the sizes and places that the library has (x86-64 Linux). Where a compiler lays a struct out otherwise, it fails here: by a
  * static assertion since C11 and C++11, by an array of a size below 0 before. */
 
@@ -313,6 +330,8 @@ LOFTSPLICE_LAYOUT_2(loftsplice_written, 16, refusal, 0, bytes, 8);
 LOFTSPLICE_LAYOUT_2(loftsplice_built, 16, refusal, 0, runs, 8);
 LOFTSPLICE_LAYOUT_3(loftsplice_imported, 24, refusal, 0, runs, 8, ones, 16);
 LOFTSPLICE_LAYOUT_2(loftsplice_exported, 16, refusal, 0, bytes, 8);
+LOFTSPLICE_LAYOUT_2(loftsplice_carried, 8, refusal, 0, carries, 4);
+LOFTSPLICE_LAYOUT_2(loftsplice_records, 16, refusal, 0, written, 8);
 
 #undef LOFTSPLICE_LAYOUT_HOLDS
 #undef LOFTSPLICE_LAYOUT_SIZE
@@ -476,6 +495,24 @@ loftsplice_imported loftsplice_import(const uint8_t *bytes, size_t bytes_len, ui
  * 7, 15, 10. Importing it gives the same elements. O(R + B + E). */
 loftsplice_exported loftsplice_export(const int64_t *starts, size_t starts_len, const uint64_t *ends, size_t ends_len, const int16_t *steps,
     size_t steps_len, uint64_t count, uint8_t *out, size_t out_len);
+
+/* ---- reading profiles: records are numbered from 0 up to `count`, and a rising column of record numbers says of each whether it carries an optional
+ * field. By LOFTSPLICE_LISTS_CARRYING the elements are the records that carry it; by LOFTSPLICE_LISTS_EMPTY those that leave it empty, so that each answer
+ * is the opposite. A record that does not carry the field is filled. */
+
+/* Whether one record carries the field; or refused 16, 14, 1, 2, 3, 7, 15, 4. O(R). */
+loftsplice_carried loftsplice_carries(uint32_t profile, uint64_t count, const int64_t *starts, size_t starts_len, const uint64_t *ends, size_t ends_len,
+    const int16_t *steps, size_t steps_len, uint64_t record);
+
+/* Writes those records of the window start..end that carry the field into the first places of out, in their order, and answers their number. A window
+ * whose start is not below its end is empty. What it does not fill stays as it was; or refused 16, 14, 1, 2, 3, 7, 15, 5, 10, and then nothing is written.
+ * As many places as the window has records are always enough. O(R + N). */
+loftsplice_records loftsplice_carrying(uint32_t profile, uint64_t count, const int64_t *starts, size_t starts_len, const uint64_t *ends, size_t ends_len,
+    const int16_t *steps, size_t steps_len, uint64_t start, uint64_t end, uint64_t *out, size_t out_len);
+
+/* The same of those that don't carry it, the filled ones. Each record of the window is written by exactly one of these two calls. O(R + N). */
+loftsplice_records loftsplice_filled(uint32_t profile, uint64_t count, const int64_t *starts, size_t starts_len, const uint64_t *ends, size_t ends_len,
+    const int16_t *steps, size_t steps_len, uint64_t start, uint64_t end, uint64_t *out, size_t out_len);
 
 #ifdef __cplusplus
 }

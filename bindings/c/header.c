@@ -62,6 +62,17 @@ static void bitmap_limits(void) {
     HOLDS(loftsplice_export(starts, 0, ends, 0, steps, 0, LOFTSPLICE_MAX_RECORDS + 1, bytes, sizeof bytes).refusal == LOFTSPLICE_COUNT);
 }
 
+static void profile_limits(void) {
+    uint64_t most = LOFTSPLICE_MAX_PROFILE_RECORDS, last[2] = {7, 7};
+    HOLDS(loftsplice_carries(LOFTSPLICE_LISTS_CARRYING, most, starts, 0, ends, 0, steps, 0, most - 1).refusal == 0);
+    HOLDS(loftsplice_carries(LOFTSPLICE_LISTS_CARRYING, most, starts, 0, ends, 0, steps, 0, most).refusal == LOFTSPLICE_INDEX);
+    HOLDS(loftsplice_carries(LOFTSPLICE_LISTS_CARRYING, most + 1, starts, 0, ends, 0, steps, 0, 0).refusal == LOFTSPLICE_COUNT);
+    HOLDS(loftsplice_filled(LOFTSPLICE_LISTS_CARRYING, most, starts, 0, ends, 0, steps, 0, most - 1, most, last, 2).written == 1);
+    HOLDS(last[0] == most - 1 && last[1] == 7);
+    HOLDS(loftsplice_filled(LOFTSPLICE_LISTS_CARRYING, most + 1, starts, 0, ends, 0, steps, 0, most - 1, most, last, 2).refusal == LOFTSPLICE_COUNT);
+    HOLDS(loftsplice_carrying(LOFTSPLICE_LISTS_EMPTY, most, starts, 0, ends, 0, steps, 0, 0, most + 1, last, 2).refusal == LOFTSPLICE_WINDOW);
+}
+
 static void other_limits(void) {
     static int64_t values[over_bounds];
     static uint8_t kinds[over_bounds], found[over_inputs];
@@ -131,6 +142,7 @@ static void readme(void) {
 int main(void) {
     column_limits();
     bitmap_limits();
+    profile_limits();
     other_limits();
     refusal_names();
     alignment();
