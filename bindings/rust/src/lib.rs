@@ -38,6 +38,8 @@ mod filter;
 #[forbid(unsafe_code)]
 mod listing;
 #[forbid(unsafe_code)]
+mod profile;
+#[forbid(unsafe_code)]
 pub mod raw;
 #[forbid(unsafe_code)]
 mod record;
@@ -59,6 +61,7 @@ pub use column::{diff_step, Column, Place};
 pub use column_buf::ColumnBuf;
 pub use filter::{Filter, FilterState, Values};
 pub use listing::{list, list_in_mode};
+pub use profile::{Fields, Profile};
 pub use record::{read_record, write_record, Record};
 pub use refusal::{NoRefusal, Refusal};
 pub use run::{Run, Runs};

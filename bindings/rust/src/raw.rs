@@ -15,10 +15,10 @@
 mod filter;
 
 pub use crate::sys::{
-    build, check, diff_step, export, filter_current, filter_new, filter_next, filter_next_run,
-    filter_reset, filter_seek, filter_seek_run, get, import, is_empty, len, list, place,
-    read_record, scan_current, scan_narrow, scan_new, scan_next, scan_next_run, scan_pos,
-    scan_reset, scan_seek, scan_seek_run, write_record,
+    build, carries, carrying, check, diff_step, export, filled, filter_current, filter_new,
+    filter_next, filter_next_run, filter_reset, filter_seek, filter_seek_run, get, import,
+    is_empty, len, list, place, read_record, scan_current, scan_narrow, scan_new, scan_next,
+    scan_next_run, scan_pos, scan_reset, scan_seek, scan_seek_run, write_record,
 };
 pub use filter::{Filter, FilterRan, Limit, NewFilter, Reset, Sifted, Variables};
 
@@ -30,6 +30,8 @@ pub const MAX_ELEMENTS: u64 = 4_294_967_295;
 pub const MAX_RECORD: usize = HEAD_BYTES + RUN_BYTES * MAX_RUNS;
 /// Records that a bitmap has at most; more are refused 14.
 pub const MAX_RECORDS: u64 = 524_288;
+/// Records that a profile is read of at most; more are refused 14.
+pub const MAX_PROFILE_RECORDS: u64 = 4_294_967_295;
 /// Bounds that a list has at most; more are refused 8.
 pub const MAX_BOUNDS: usize = 16;
 /// Inputs that variable bounds are handed at most; more are refused 8.
@@ -74,6 +76,11 @@ pub const FREE: u32 = 0;
 pub const INCLUSIVE: u32 = 1;
 /// Kind of a bound: the value itself does not meet it.
 pub const EXCLUSIVE: u32 = 2;
+
+/// Profile of a column: it lists the records that carry the field.
+pub const LISTS_CARRYING: u32 = 1;
+/// Profile of a column: it lists the records that leave the field empty.
+pub const LISTS_EMPTY: u32 = 2;
 
 /// Mode of a filter or listing: of two upper bounds of one value the inclusive one wins.
 pub const INCLUSIVE_WINS: u32 = 1;
@@ -265,4 +272,24 @@ pub struct Exported {
     pub refusal: u32,
     /// The number of bytes written.
     pub bytes: u64,
+}
+
+/// Whether a record carries the field.
+#[repr(C)]
+#[derive(Clone, Copy, Debug, PartialEq, Eq, Hash)]
+pub struct Carried {
+    /// The refusal's number, or 0.
+    pub refusal: u32,
+    /// 1 if it does, else 0.
+    pub carries: u32,
+}
+
+/// The number of records of a window.
+#[repr(C)]
+#[derive(Clone, Copy, Debug, PartialEq, Eq, Hash)]
+pub struct Records {
+    /// The refusal's number, or 0.
+    pub refusal: u32,
+    /// The number of records written.
+    pub written: u64,
 }

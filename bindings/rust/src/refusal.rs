@@ -19,13 +19,13 @@ pub enum Refusal {
     Ends,
     /// 3: a run's last element is outside `i64`.
     Reach,
-    /// 4: element asked at index ≥ length; place asked above length.
+    /// 4: element asked at index ≥ length; place asked above length; a record that is not below the record count.
     Index,
-    /// 5: window end above length.
+    /// 5: window end above length, or above the record count.
     Window,
     /// 6: the scan's window end is above length, its index is outside its window, or it does not carry the element that it is at.
     Scan,
-    /// 7: seek, filter or listing over a window that doesn't rise; the bitmap of a column that doesn't.
+    /// 7: seek, filter or listing over a window that doesn't rise; the bitmap or a profile of a column that doesn't.
     Order,
     /// 8: over 16 bounds in a list, over 8 inputs; over 256 windows or window lists of unequal length.
     Bounds,
@@ -39,11 +39,11 @@ pub enum Refusal {
     Kind,
     /// 13: length under 2 or over 57,346, or length minus 2 no multiple of 14.
     Size,
-    /// 14: over 524,288 records of a bitmap.
+    /// 14: over 524,288 records of a bitmap; over 4,294,967,295 that a profile is read of.
     Count,
     /// 15: an element is no record number.
     Range,
-    /// 16: a profile that is neither 1 nor 2. No call of this crate gives it yet.
+    /// 16: a profile that is neither 1 nor 2.
     Profile,
     /// 17: a run of two or more elements with a negative step. No call of this crate gives it yet.
     Falling,
@@ -61,17 +61,17 @@ const TABLE: [Row; 19] = [
     (Refusal::Shape, 1, "SHAPE", "array lengths differ, or over 4,096 runs; values to build from, or present records, that need over 4,096 runs; over 4,294,967,295 such values"),
     (Refusal::Ends, 2, "ENDS", "an end is not above the one before (the first: above 0), or is over 4,294,967,295"),
     (Refusal::Reach, 3, "REACH", "a run's last element is outside i64"),
-    (Refusal::Index, 4, "INDEX", "element asked at index ≥ length; place asked above length"),
-    (Refusal::Window, 5, "WINDOW", "window end above length"),
+    (Refusal::Index, 4, "INDEX", "element asked at index ≥ length; place asked above length; a record that is not below the record count"),
+    (Refusal::Window, 5, "WINDOW", "window end above length, or above the record count"),
     (Refusal::Scan, 6, "SCAN", "the scan's window end is above length, its index is outside its window, or it does not carry the element that it is at"),
-    (Refusal::Order, 7, "ORDER", "seek, filter or listing over a window that doesn't rise; the bitmap of a column that doesn't"),
+    (Refusal::Order, 7, "ORDER", "seek, filter or listing over a window that doesn't rise; the bitmap or a profile of a column that doesn't"),
     (Refusal::Bounds, 8, "BOUNDS", "over 16 bounds in a list, over 8 inputs; over 256 windows or window lists of unequal length"),
     (Refusal::Input, 9, "INPUT", "a variable bound names an input that isn't there or has no value"),
     (Refusal::Room, 10, "ROOM", "an output has fewer places than the answer needs"),
     (Refusal::Cut, 11, "CUT", "fewer than 4 bytes, or fewer than the length says; fewer bytes of a bitmap than its records need"),
     (Refusal::Kind, 12, "KIND", "kind is not 1"),
     (Refusal::Size, 13, "SIZE", "length under 2 or over 57,346, or length minus 2 no multiple of 14"),
-    (Refusal::Count, 14, "COUNT", "over 524,288 records of a bitmap"),
+    (Refusal::Count, 14, "COUNT", "over 524,288 records of a bitmap; over 4,294,967,295 that a profile is read of"),
     (Refusal::Range, 15, "RANGE", "an element is no record number"),
     (Refusal::Profile, 16, "PROFILE", "a profile that is neither 1 nor 2"),
     (Refusal::Falling, 17, "FALLING", "a run of two or more elements with a negative step"),

@@ -8,8 +8,8 @@ use std::ops;
 use std::vec::IntoIter;
 
 use loftsplice::{
-    raw, Bound, Column, ColumnBuf, Filter, FilterState, Mode, NoRefusal, Place, Record, Refusal,
-    Run, Runs, Scan, ScanState, SeekEach, Unbounded, Values, Variables,
+    raw, Bound, Column, ColumnBuf, Fields, Filter, FilterState, Mode, NoRefusal, Place, Profile,
+    Record, Refusal, Run, Runs, Scan, ScanState, SeekEach, Unbounded, Values, Variables,
 };
 
 /// No runs; one element; 10 15 20 25, 30, 31, 40 140 240; 10 5, 6 7 8; the edges of i64.
@@ -213,6 +213,7 @@ fn traits() {
     )>();
     value::<(raw::Listed, raw::ReadRecord, raw::Written, raw::Built)>();
     value::<(raw::Imported, raw::Exported)>();
+    value::<(Fields<'_>, Profile, raw::Carried, raw::Records)>();
     default::<(
         Column<'_>,
         ColumnBuf,
