@@ -51,6 +51,7 @@ pub mod port;
 #[cfg(not(feature = "port"))]
 #[path = "port_absent.rs"]
 pub mod port;
+pub mod profiles;
 pub mod random;
 #[cfg(rust_text)]
 pub mod rattle;

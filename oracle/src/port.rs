@@ -228,6 +228,8 @@ impl Session {
             Call::Build(values, places) => outputs::built(values, *places),
             Call::Import(bytes, count, places) => outputs::imported(bytes, *count, *places),
             Call::Export(count, places) => outputs::exported(runs, *count, *places),
+            Call::Carries(profile, count, record) => carries(raw::carries(u32::from(*profile), *count, starts, ends, steps, *record)),
+            Call::Profile(fields) => outputs::records(runs, fields),
             #[cfg(feature = "listing")]
             Call::List(l) => outputs::listed(runs, l, desk),
             #[cfg(feature = "record")]
@@ -285,6 +287,15 @@ fn answer(a: raw::Answer) -> Said {
     match (a.refusal, a.found) {
         (0, 1) => Said::Value(a.value),
         (0, 0) => Said::None,
+        (n, 0) => Said::Refused(n),
+        odd => panic!("an answer {odd:?}"),
+    }
+}
+
+fn carries(c: raw::Carried) -> Said {
+    match (c.refusal, c.carries) {
+        (0, 0) => Said::Carries(false),
+        (0, 1) => Said::Carries(true),
         (n, 0) => Said::Refused(n),
         odd => panic!("an answer {odd:?}"),
     }

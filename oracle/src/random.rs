@@ -1,7 +1,7 @@
 //! Random columns, sound and damaged, up to every limit; long sequences on them; listings; records cut and damaged.
 use crate::calls::*;
 use crate::compare::{Bench, Tally, alone, by_hand, sequence};
-use crate::{bitmaps, lists, model};
+use crate::{bitmaps, lists, model, profiles};
 
 /// SplitMix64: the same seed gives the same run.
 pub struct Dice(pub u64);
@@ -354,6 +354,7 @@ pub fn round(d: &mut Dice, most: u64, tally: &mut Tally) {
     records(d, &mut bench, runs.ends.len(), tally);
     lists::round(d, &mut bench, tally);
     bitmaps::round(d, &mut bench, tally);
+    profiles::round(d, &mut bench, tally);
 }
 
 /// A scan put together by hand, mostly one that no call gives, a filter's mode and state, and calls to start from them.

@@ -15,13 +15,13 @@ fn differences(text: &str) -> Vec<String> {
 }
 
 /// P1 to P12, document 02's places, the cases of request 4, scans that do not carry what they stand on, cuts and chained seeks, runs of
-/// calls on a scan and on a filter, runs built from lists, presence bitmaps, with every side that is there.
+/// calls on a scan and on a filter, runs built from lists, presence bitmaps, columns read by profile, with every side that is there.
 #[test]
 fn examples_of_the_documents() {
     let cases = corpus::cases(EXAMPLES).expect("the examples");
-    assert_eq!(cases.len(), 61);
+    assert_eq!(cases.len(), 70);
     let lines: usize = cases.iter().map(|c| c.lines.len()).sum();
-    assert_eq!(lines, 338);
+    assert_eq!(lines, 405);
     assert_eq!(differences(EXAMPLES), Vec::<String>::new());
 }
 
@@ -36,7 +36,8 @@ fn printed_as_read() {
         let expected = corpus::expected(answer).unwrap();
         let sieve = expected.mode.map(|mode| oracle::model::Sieve { mode, ..oracle::model::Sieve::OPEN });
         let state = expected.scan.map_or(String::new(), |s| corpus::after(&s, sieve.as_ref()));
-        assert_eq!(format!("{}{state}", expected.said), answer);
+        let printed = format!("{}{state}", expected.said);
+        assert!(printed == answer || answer.contains('*') && corpus::expected(&printed).as_ref() == Ok(&expected), "{printed}");
     }
 }
 
@@ -80,6 +81,8 @@ fn every_call_reads_back() {
         Call::Import(vec![], 0, [0, 1, 2]),
         Call::Import(vec![0xE5, 1], u64::MAX, [usize::MAX; 3]),
         Call::Export(u64::MAX, 0),
+        Call::Carries(255, u64::MAX, 0),
+        Call::Profile(Fields { profile: 0, count: u64::MAX, start: u64::MAX, end: 7, carry: false, places: usize::MAX }),
     ] {
         assert_eq!(corpus::call(&call.to_string()), Ok(call.clone()), "{call}");
     }

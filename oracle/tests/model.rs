@@ -256,6 +256,44 @@ fn bitmaps_go_there_and_back() {
     assert!(imported > 2000 && exported > 2000, "{imported}, {exported}");
 }
 
+/// Document 02, request 7: each record of a window is in exactly one list, in order, in the one that carries the field exactly if it is an element (profile 1)
+/// or is none (profile 2); profile 2 answers the opposite; a window that is cut; a scan's seek; and the bitmap of the column.
+#[test]
+fn profiles_are_the_elements_and_opposite() {
+    let (mut tried, mut refused) = (0, 0);
+    for mut runs in columns(Level { lengths: 3, steps: &[0, 1, 2, 3], gaps: &[0, 1, 2, 5], runs: 2, depth: 0, every: 1 }) {
+        runs.starts.iter_mut().for_each(|start| *start -= 3);
+        let c = Column::new(&runs);
+        let elements: Vec<i64> = (0..c.check().unwrap()).map(|i| c.at(i)).collect();
+        let count = elements.iter().max().map_or(2, |top| *top as u64 + 3);
+        let ask = |call: Call| Session::new(&c).call(&call);
+        let list = |profile, start, end, carry| ask(Call::Profile(Fields { profile, count, start, end, carry, places: 99 }));
+        let Said::Written(bytes) = ask(Call::Export(count, 99)) else {
+            assert_eq!(list(1, 0, count, true), Said::Refused(7));
+            refused += 1;
+            continue;
+        };
+        for record in 0..count {
+            let mut scan = Session::new(&c);
+            let sought = scan.call(&Call::Seek(record as i64)) == Said::Value(record as i64);
+            assert_eq!(elements.contains(&(record as i64)), sought);
+            assert_eq!(bytes[record as usize / 8] >> (record % 8) & 1 == 1, sought);
+            assert_eq!((ask(Call::Carries(1, count, record)), ask(Call::Carries(2, count, record))), (Said::Carries(sought), Said::Carries(!sought)));
+        }
+        for (start, end) in (0..=count).flat_map(|end| (0..=count).map(move |start| (start, end))) {
+            let (own, others): (Vec<i64>, Vec<i64>) = (start as i64..end as i64).partition(|record| elements.contains(record));
+            assert_eq!((list(1, start, end, true), list(1, start, end, false)), (Said::Ran(own.clone()), Said::Ran(others.clone())));
+            assert_eq!((list(2, start, end, true), list(2, start, end, false)), (Said::Ran(others), Said::Ran(own)));
+            tried += 1;
+        }
+        for middle in 0..=count {
+            let parts = [list(1, 0, middle, false), list(1, middle, count, false)].map(|said| if let Said::Ran(records) = said { records } else { panic!("{said}") });
+            assert_eq!(Said::Ran(parts.concat()), list(1, 0, count, false));
+        }
+    }
+    assert!(tried > 40_000 && refused > 200, "{tried}, {refused}");
+}
+
 /// The order of refusals: an input that could be refused by several numbers is refused by the one that document 01 tries first.
 #[test]
 fn order_of_refusals() {

@@ -69,6 +69,17 @@ pub struct Listing {
     pub counts: usize,
 }
 
+/// A listing by profile: the records of a window that carry the field, or (`carry` false) those that don't, and the places of the output.
+#[derive(Clone, Copy, Debug, PartialEq, Eq)]
+pub struct Fields {
+    pub profile: u8,
+    pub count: u64,
+    pub start: u64,
+    pub end: u64,
+    pub carry: bool,
+    pub places: usize,
+}
+
 #[derive(Clone, Debug, PartialEq, Eq)]
 pub enum Call {
     New,
@@ -105,6 +116,9 @@ pub enum Call {
     Import(Vec<u8>, u64, [usize; 3]),
     /// The record count, and the bytes of the output.
     Export(u64, usize),
+    /// Profile, record count and record.
+    Carries(u8, u64, u64),
+    Profile(Fields),
 }
 
 /// What a call said. The six with arrays hold the answer's own places; the places beyond are looked at where the call is made (`Filled::whole`).
@@ -117,6 +131,9 @@ pub enum Said {
     Refused(u32),
     Length(u64),
     Place(u64, u64, u64),
+    /// Whether a record carries the field.
+    Carries(bool),
+    /// Values in a row: those of a run of calls, or the records of a window.
     Ran(Vec<i64>),
     Listed { sum: u64, counts: Vec<u64>, out: Vec<i64> },
     Read { used: u64, runs: Runs },
@@ -130,6 +147,7 @@ pub const OUT: i64 = -77;
 pub const COUNT: u64 = 99;
 pub const PLACE: i16 = 7;
 pub const BYTE: u8 = 0xAA;
+pub const RECORD: u64 = u64::MAX - 76;
 
 impl Runs {
     /// A column from (start, step, length) a run.

@@ -134,6 +134,10 @@ impl Display for Call {
             Call::Build(v, p) => write!(f, "build {} {} {} {}", list(v), p[0], p[1], p[2]),
             Call::Import(b, n, p) => write!(f, "import {} {n} {} {} {}", hex(b), p[0], p[1], p[2]),
             Call::Export(n, p) => write!(f, "export {n} {p}"),
+            Call::Carries(profile, n, record) => write!(f, "carries {profile} {n} {record}"),
+            Call::Profile(Fields { profile, count, start, end, carry, places }) => {
+                write!(f, "profile {profile} {count} {start} {end} {} {places}", if *carry { "do" } else { "dont" })
+            }
         }
     }
 }
@@ -155,6 +159,7 @@ impl Display for Said {
             Said::Refused(n) => write!(f, "r {n}"),
             Said::Length(n) => write!(f, "length {n}"),
             Said::Place(r, k, n) => write!(f, "p {r} {k} {n}"),
+            Said::Carries(carries) => f.write_str(if *carries { "yes" } else { "no" }),
             Said::Ran(v) => write!(f, "n {} out {}", v.len(), list(v)),
             Said::Listed { sum, counts, out } => write!(f, "sum {sum} counts {} out {}", list(counts), list(out)),
             Said::Read { used, runs } => write!(f, "runs {} used {used} {runs}", runs.starts.len()),
@@ -177,7 +182,7 @@ pub fn has_state(call: &Call, said: &Said) -> bool {
         Call::New => !matches!(said, Said::Refused(_)),
         Call::Check | Call::Place(_) | Call::Element(_) | Call::Diff(..) => false,
         Call::Set(_) | Call::FilterSet(..) | Call::List(_) | Call::Read(..) | Call::Write(_) => false,
-        Call::Build(..) | Call::Import(..) | Call::Export(..) => false,
+        Call::Build(..) | Call::Import(..) | Call::Export(..) | Call::Carries(..) | Call::Profile(_) => false,
         _ => true,
     }
 }
@@ -281,6 +286,15 @@ fn mode(words: &[&str]) -> Parsed<Mode> {
     })
 }
 
+/// Whether those are asked for that carry the field.
+fn does(word: &str) -> Parsed<bool> {
+    match word {
+        "do" => Ok(true),
+        "dont" => Ok(false),
+        _ => Err(format!("'{word}' is neither do nor dont")),
+    }
+}
+
 fn lists(words: &[&str]) -> Parsed<Lists> {
     let input = |w: &str| if w == "?" { Ok(None) } else { number(w).map(Some) };
     Ok(Lists { lower: items(words[0], bound)?, upper: items(words[1], bound)?, inputs: items(words[2], input)? })
@@ -333,6 +347,15 @@ pub fn call(text: &str) -> Parsed<Call> {
         ["build", v, s, e, t] => Call::Build(numbers(v)?, [number(s)?, number(e)?, number(t)?]),
         ["import", b, n, s, e, t] => Call::Import(bytes(b)?, number(n)?, [number(s)?, number(e)?, number(t)?]),
         ["export", n, p] => Call::Export(number(n)?, number(p)?),
+        ["carries", profile, n, record] => Call::Carries(number(profile)?, number(n)?, number(record)?),
+        ["profile", profile, n, start, end, which, p] => Call::Profile(Fields {
+            profile: number(profile)?,
+            count: number(n)?,
+            start: number(start)?,
+            end: number(end)?,
+            carry: does(which)?,
+            places: number(p)?,
+        }),
         _ => return Err(format!("'{text}' is no call")),
     })
 }
@@ -356,6 +379,8 @@ fn said(text: &str) -> Parsed<Said> {
         ["ok"] => Said::Ok,
         ["r", n] => Said::Refused(number(n)?),
         ["length", n] => Said::Length(number(n)?),
+        ["yes"] => Said::Carries(true),
+        ["no"] => Said::Carries(false),
         ["p", r, k, n] => Said::Place(number(r)?, number(k)?, number(n)?),
         ["n", n, "out", o] => {
             let out = numbers(o)?;
@@ -426,7 +451,7 @@ fn case(rest: &str) -> Parsed<Case> {
     let [n, kind, by] = rest.split(' ').collect::<Vec<_>>()[..] else {
         return Err(format!("'case {rest}' is not number, kind and by"));
     };
-    let kinds = ["scan", "filter", "mixed", "far", "column", "raw", "list", "read", "write", "build", "import", "export"];
+    let kinds = ["scan", "filter", "mixed", "far", "column", "raw", "list", "read", "write", "build", "import", "export", "profile"];
     // CORPUS2 has the request from which on the case holds in its place, and any word for the kind; the Rust does not play such a case.
     let from = by.parse::<u32>().is_ok();
     if !from && !kinds.contains(&kind) {

@@ -5,6 +5,7 @@ use crate::calls::*;
 use std::cell::Cell;
 
 mod bitmap;
+mod profile;
 
 pub const SHAPE: u32 = 1;
 pub const ENDS: u32 = 2;
@@ -21,6 +22,7 @@ pub const KIND: u32 = 12;
 pub const SIZE: u32 = 13;
 pub const COUNT: u32 = 14;
 pub const RANGE: u32 = 15;
+pub const PROFILE: u32 = 16;
 
 const LONGEST: u64 = 4_294_967_295;
 const MOST_RUNS: usize = 4096;
@@ -292,6 +294,8 @@ impl<'a> Session<'a> {
             Call::Build(values, places) => Said::Built(build(values, *places)?),
             Call::Import(bytes, count, places) => bitmap::import(bytes, *count, *places)?,
             Call::Export(count, places) => bitmap::export(self.column, *count, *places)?,
+            Call::Carries(profile, count, record) => profile::carries(self.column, *profile, *count, *record)?,
+            Call::Profile(fields) => profile::list(self.column, fields)?,
         })
     }
 

@@ -6,7 +6,7 @@
 use oracle::calls::*;
 use oracle::compare::{self, Bench, Tally, alone, by_hand, sequence};
 use oracle::random::{self, Dice};
-use oracle::{bitmaps, corpus, lists, model, rust};
+use oracle::{bitmaps, corpus, lists, model, profiles, rust};
 use std::io::Write;
 
 fn main() {
@@ -69,12 +69,12 @@ fn as_rattle(_: &str, _: u64, _: u64) {
 fn case(d: &mut Dice, number: u64, tally: &mut Tally) -> String {
     let most = if d.once_in(20) { 300 } else { 12 };
     let mut runs = random::column(d, most);
-    let kind = d.pick(&["scan", "scan", "filter", "filter", "mixed", "mixed", "column", "raw", "list", "read", "write", "build", "import", "export"]);
+    let kind = d.pick(&["scan", "scan", "filter", "filter", "mixed", "mixed", "column", "raw", "list", "read", "write", "build", "import", "export", "profile"]);
     if (["column", "write"].contains(&kind) && d.once_in(2)) || d.once_in(25) {
         random::damage(d, &mut runs);
     }
     let mut counts = Vec::new();
-    if kind == "export" {
+    if ["export", "profile"].contains(&kind) {
         (runs, counts) = bitmaps::moved(d, &runs);
     }
     let c = model::Column::new(&runs);
@@ -99,6 +99,13 @@ fn case(d: &mut Dice, number: u64, tally: &mut Tally) -> String {
             let lines = calls.iter().zip(&answers).map(|(call, (said, scan, sieve))| line(call, said, scan, sieve.as_ref()));
             let text = format!("{} -> ok\n{} -> ok\n", Call::Set(scan), Call::FilterSet(wins, mode)) + &lines.collect::<String>();
             whole(number, kind, false, &runs, text)
+        }
+        "profile" => {
+            counts.extend([4_294_967_295; 3]);
+            let count = d.pick(&counts);
+            let calls = [profiles::one(d, &c, count), profiles::one(d, &c, count), few(d, &c, count)];
+            let lines = calls.iter().map(|call| format!("{call} -> {}\n", alone(&mut bench, call, tally)));
+            whole(number, kind, false, &runs, lines.collect())
         }
         "list" | "write" | "read" | "build" | "import" | "export" => {
             let call = match kind {
@@ -145,6 +152,12 @@ fn random_import(d: &mut Dice) -> Call {
     let small = (0..).map(|_| bitmaps::random(d)).find(|(bytes, _)| bytes.len() < 200);
     let (bytes, count) = small.expect("most are");
     into_places(d, |places| Call::Import(bytes.clone(), count, places))
+}
+
+/// A listing by profile of a few records, since they are printed.
+fn few(d: &mut Dice, c: &model::Column, count: u64) -> Call {
+    let small = |call: &Call| matches!(call, Call::Profile(f) if f.places < 300);
+    (0..).map(|_| profiles::random(d, c, count)).find(small).expect("most are")
 }
 
 /// Such a call with places that are right, longer or short; how many it needs is asked of the model.

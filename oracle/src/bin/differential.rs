@@ -2,7 +2,7 @@
 use oracle::calls::Runs;
 use oracle::compare::{Tally, quiet_panics};
 use oracle::random::Dice;
-use oracle::{bitmaps, exhaustive, lists, port, random, rust};
+use oracle::{bitmaps, exhaustive, lists, port, profiles, random, rust};
 use std::time::{Duration, Instant};
 
 fn main() {
@@ -33,6 +33,8 @@ fn main() {
     say("with lists to build from", &tally, begun);
     bitmaps::everything(if long { 13 } else { 499 }, &mut tally);
     say("with bitmaps", &tally, begun);
+    profiles::everything(if long { 1 } else { 7 }, &mut tally);
+    say("with profiles", &tally, begun);
     everything(&mut tally, levels, if long { 3 } else { 29 }, begun);
     randomly(&mut tally, seconds.saturating_sub(begun.elapsed()).max(Duration::from_secs(5)), seed.wrapping_add(1), begun);
     say("with random", &tally, begun);

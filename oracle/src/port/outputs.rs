@@ -103,6 +103,18 @@ pub(super) fn exported(runs: &Runs, count: u64, places: usize) -> Said {
     })
 }
 
+/// The records of a window, each of which is a record number and so no more than an i64.
+pub(super) fn records(runs: &Runs, f: &Fields) -> Said {
+    let mut out = vec![RECORD; f.places];
+    let call = if f.carry { raw::carrying } else { raw::filled };
+    let answer = call(u32::from(f.profile), f.count, &runs.starts, &runs.ends, &runs.steps, f.start, f.end, &mut out);
+    let n = answer.written as usize;
+    assert!(answer.refusal == 0 || n == 0, "records and a refusal");
+    untouched(&out[n..], RECORD);
+    out.truncate(n);
+    if answer.refusal == 0 { Said::Ran(out.into_iter().map(|record| i64::try_from(record).expect("a record")).collect()) } else { Said::Refused(answer.refusal) }
+}
+
 /// The bytes that a call, which gives refusal and their number, writes.
 fn as_bytes(places: usize, call: impl FnOnce(&mut [u8]) -> (u32, u64)) -> Said {
     let mut out = vec![BYTE; places];

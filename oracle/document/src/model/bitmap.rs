@@ -21,15 +21,20 @@ pub fn import(bytes: &[u8], count: u64, places: [usize; 3]) -> Outcome<Said> {
     Ok(Said::Imported { ones: records.len() as u64, runs })
 }
 
-/// "writes the bitmap of a rising column, with zeros past the count in its last byte, and answers the bytes written". Refused 14, "on export then 1, 2, 3, 7
-/// for a column that doesn't rise, 15 RANGE for an element that is no record number, 10".
-pub fn export(column: &Column, count: u64, places: usize) -> Outcome<Said> {
-    refuse_if(count > MOST_RECORDS, COUNT)?;
+/// "then 1, 2, 3, 7 for a column that doesn't rise, 15 RANGE for an element that is no record number".
+pub fn records(column: &Column, count: u64) -> Outcome<()> {
     let length = column.check?;
     refuse_if(!column.rises(0, length), ORDER)?;
     // It rises, so the first element is the least and the last the greatest.
     let is_record = |i: u64| (0..i128::from(count)).contains(&i128::from(column.at(i)));
-    refuse_if(length > 0 && !(is_record(0) && is_record(length - 1)), RANGE)?;
+    refuse_if(length > 0 && !(is_record(0) && is_record(length - 1)), RANGE)
+}
+
+/// "writes the bitmap of a rising column, with zeros past the count in its last byte, and answers the bytes written". Refused 14, "on export then 1, 2, 3, 7
+/// for a column that doesn't rise, 15 RANGE for an element that is no record number, 10".
+pub fn export(column: &Column, count: u64, places: usize) -> Outcome<Said> {
+    refuse_if(count > MOST_RECORDS, COUNT)?;
+    records(column, count)?;
     let mut records = vec![false; count as usize];
     for r in 0..column.runs.ends.len() {
         for k in 0..column.runs.ends[r] - column.begin(r) {
