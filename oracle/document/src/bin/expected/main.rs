@@ -12,6 +12,7 @@ mod cases;
 mod columns;
 mod command;
 mod listings;
+mod profiles;
 mod records;
 mod samples;
 mod scans;
@@ -62,6 +63,7 @@ fn stored() -> Vec<(&'static str, Vec<u8>)> {
         ("crates/examples_listings/stdout", listings::listed().into_bytes()),
         ("crates/examples_records/stdout", records::stored().into_bytes()),
         ("crates/examples_built/stdout", made.concat().into_bytes()),
+        ("crates/examples_profiles/stdout", profiles::profiled().into_bytes()),
         ("crates/command/stdout", command::stdout().into_bytes()),
         ("crates/command/data/bark.rec", samples::bark()),
         ("samples/bark.rec", samples::bark()),
