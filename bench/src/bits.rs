@@ -101,7 +101,7 @@ pub fn import(bytes: &[u8], count: u64, starts: &mut [i64], ends: &mut [u64], st
 
 /// Whether a checked column rises within the record numbers, or why it is refused: 7, 15.
 #[inline(always)]
-fn placed(starts: &[i64], ends: &[u64], steps: &[i16], count: u64) -> Result<(), u32> {
+pub fn placed(starts: &[i64], ends: &[u64], steps: &[i16], count: u64) -> Result<(), u32> {
     if !plain::rises(starts, ends, steps, 0, ends.last().copied().unwrap_or(0)) {
         return Err(7);
     }

@@ -33,9 +33,11 @@ mod clock;
 mod codec;
 mod columns;
 mod draw;
+mod fields;
 mod listing;
 mod page;
 mod plain;
+mod profiles;
 mod record;
 mod runs;
 mod sifting;
@@ -64,6 +66,7 @@ fn main() {
     record::measure(&mut clock);
     building::measure(&mut clock);
     bitmaps::measure(&mut clock);
+    profiles::measure(&mut clock);
     let table = page::table(&clock);
     println!("{table}");
     if !clock.only.is_empty() {

@@ -41,6 +41,7 @@ fn each(unit: &str) -> &'static str {
         "call" => " a call",
         "target" => " a target",
         "value" => " a value",
+        "record" => " a record",
         _ => "",
     }
 }
