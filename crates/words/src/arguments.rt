@@ -57,8 +57,14 @@ fn wrong(i: usize, wanted: usize, places: &mut [usize; 16]) -> usize {
 }
 
 // Takes a format. Answers how many arguments were taken.
-fn formatted(value: &[u8], i: usize, took: usize, places: &mut [usize; 16]) -> usize {
-    let format = format_of(value);
+fn formatted(
+    command: Command,
+    value: &[u8],
+    i: usize,
+    took: usize,
+    places: &mut [usize; 16],
+) -> usize {
+    let format = format_of(command, value);
     if format == LINES {
         return wrong(i, 0, places);
     }
@@ -67,11 +73,18 @@ fn formatted(value: &[u8], i: usize, took: usize, places: &mut [usize; 16]) -> u
 }
 
 // Takes an argument for the value of an option, if it is one. Answers how many arguments were taken.
-fn valued(option: usize, value: &[u8], i: usize, took: usize, places: &mut [usize; 16]) -> usize
+fn valued(
+    command: Command,
+    option: usize,
+    value: &[u8],
+    i: usize,
+    took: usize,
+    places: &mut [usize; 16],
+) -> usize
     requires { ⌜ option < 12 ⌝ }
 {
     if option == FORMAT {
-        return formatted(value, i, took, places);
+        return formatted(command, value, i, took, places);
     }
     if fits(option, value) {
         places[option] = i;
@@ -83,12 +96,12 @@ fn valued(option: usize, value: &[u8], i: usize, took: usize, places: &mut [usiz
     wrong(i, 1, places)
 }
 
-fn value_after(option: usize, i: usize, places: &mut [usize; 16]) -> usize
+fn value_after(command: Command, option: usize, i: usize, places: &mut [usize; 16]) -> usize
     requires { ⌜ option < 12 ⌝ }
 {
     let mut buf = io::buffer();
     let n = os::arg(i, &mut buf);
-    valued(option, &buf[..n], i, 2, places)
+    valued(command, option, &buf[..n], i, 2, places)
 }
 
 // Takes an option: its value stands behind a '=' or in the next argument. None is given twice. Answers how many arguments it has.
@@ -111,13 +124,13 @@ fn option(
         if RISING <= option {
             return wrong(i, 0, places);
         }
-        return valued(option, &word[end + 1..], i, 1, places);
+        return valued(command, option, &word[end + 1..], i, 1, places);
     }
     if RISING <= option {
         places[option] = i;
         return 1;
     }
-    value_after(option, after, places)
+    value_after(command, option, after, places)
 }
 
 // Takes a number that is asked for.
@@ -129,9 +142,11 @@ fn asked(word: &[u8], i: usize, places: &mut [usize; 16]) -> usize {
     1
 }
 
-// Takes an index of the window: operand 1 is START, operand 2 is END.
-fn index(word: &[u8], operand: usize, i: usize, places: &mut [usize; 16]) -> usize {
-    if 2 < operand {
+// Takes an operand that is a number, up to a last one: of `list` 1 is START, 2 is END; of `audit` 1 is COUNT, then come START and END.
+fn index(word: &[u8], operand: usize, last: usize, i: usize, places: &mut [usize; 16]) -> usize
+    requires { ⌜ last < 12 ⌝ }
+{
+    if last < operand {
         return wrong(i, 0, places);
     }
     match read_unsigned(word) {
@@ -147,7 +162,7 @@ fn index(word: &[u8], operand: usize, i: usize, places: &mut [usize; 16]) -> usi
 // Takes the number of records, operand 1, or the file to write, operand 2.
 fn counted(word: &[u8], operand: usize, i: usize, places: &mut [usize; 16]) -> usize {
     if operand != 2 {
-        return index(word, operand, i, places);
+        return index(word, operand, 2, i, places);
     }
     places[OUT] = i;
     places[OPERANDS] = 3;
@@ -164,7 +179,8 @@ fn operand(command: Command, word: &[u8], i: usize, places: &mut [usize; 16]) ->
     }
     match command {
         Command::Find => asked(word, i, places),
-        Command::List => index(word, operands, i, places),
+        Command::List => index(word, operands, 2, i, places),
+        Command::Audit => index(word, operands, 3, i, places),
         Command::Import => counted(word, operands, i, places),
         Command::Export => counted(word, operands, i, places),
         _ => wrong(i, 0, places),
@@ -238,6 +254,9 @@ fn named(word: &[u8]) -> Command {
     }
     if check::same(word, b"export") {
         return Command::Export;
+    }
+    if check::same(word, b"audit") {
+        return Command::Audit;
     }
     Command::Wrong
 }

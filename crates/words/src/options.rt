@@ -10,9 +10,11 @@ use crate::places::CSV;
 use crate::places::FILLED;
 use crate::places::FORMAT;
 use crate::places::FROM;
+use crate::places::HTML;
 use crate::places::JSON;
 use crate::places::LINES;
 use crate::places::NUMBERS;
+use crate::places::PROFILE;
 use crate::places::RISING;
 use crate::places::TO;
 
@@ -23,6 +25,7 @@ pub enum Command {
     Build,
     Import,
     Export,
+    Audit,
     Wrong,
 }
 
@@ -97,6 +100,15 @@ fn checking_option(name: &[u8]) -> usize
     0
 }
 
+fn auditing_option(name: &[u8]) -> usize
+    ensures { λ r. ⌜ r < 12 ⌝ }
+{
+    if check::same(name, b"--profile") {
+        return PROFILE;
+    }
+    0
+}
+
 // The option of this name that a command has by itself.
 fn own_option(command: Command, name: &[u8]) -> usize
     ensures { λ r. ⌜ r < 12 ⌝ }
@@ -105,6 +117,7 @@ fn own_option(command: Command, name: &[u8]) -> usize
         Command::Check => checking_option(name),
         Command::List => listing_option(name),
         Command::Find => finding_option(name),
+        Command::Audit => auditing_option(name),
         _ => 0,
     }
 }
@@ -115,6 +128,7 @@ fn tells(command: Command) -> bool {
         Command::Check => true,
         Command::List => true,
         Command::Find => true,
+        Command::Audit => true,
         _ => false,
     }
 }
@@ -139,13 +153,24 @@ pub fn is_number(word: &[u8]) -> bool {
     }
 }
 
+// The format that a page has: a report alone is one.
+fn page_of(command: Command) -> usize {
+    match command {
+        Command::Audit => HTML,
+        _ => LINES,
+    }
+}
+
 // The format of a name; LINES, which has none, where it is no other's.
-pub fn format_of(name: &[u8]) -> usize {
+pub fn format_of(command: Command, name: &[u8]) -> usize {
     if check::same(name, b"csv") {
         return CSV;
     }
     if check::same(name, b"json") {
         return JSON;
+    }
+    if check::same(name, b"html") {
+        return page_of(command);
     }
     LINES
 }

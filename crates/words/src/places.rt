@@ -1,7 +1,8 @@
 // Where the words stand that the command is called with: for each thing that can be asked for an argument's number, 0 where it is not asked for.
 // An array of numbers, since it is filled word by word and lent to each function that reads one.
 
-// operands: the file that is read; of `list` the window; of `import` and `export` how many records there are, and the file to write
+// operands: the file that is read; of `list` the window; of `import` and `export` how many records there are, and the file to write; of `audit` how
+// many there are, and the window of them
 pub const FILE: usize = 0;
 
 pub const START: usize = 1;
@@ -12,7 +13,11 @@ pub const RECORDS: usize = 1;
 
 pub const OUT: usize = 2;
 
-// options with a value: where the value stands
+pub const FIRST: usize = 2;
+
+pub const AFTER: usize = 3;
+
+// options with a value: where the value stands (`audit` has none of the bounds, so its words stand where theirs would)
 pub const FROM: usize = 3;
 
 pub const ABOVE: usize = 4;
@@ -20,6 +25,8 @@ pub const ABOVE: usize = 4;
 pub const TO: usize = 5;
 
 pub const BELOW: usize = 6;
+
+pub const PROFILE: usize = 6;
 
 pub const NUMBERS: usize = 7;
 
@@ -31,6 +38,8 @@ pub const LINES: usize = 0;
 pub const CSV: usize = 1;
 
 pub const JSON: usize = 2;
+
+pub const HTML: usize = 3;
 
 // options without
 pub const RISING: usize = 9;

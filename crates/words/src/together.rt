@@ -22,6 +22,7 @@ fn incomplete(command: Command, operands: usize, numbers: usize) -> bool {
         Command::Find => operands == 1 && numbers == 0,
         Command::Import => operands < 3,
         Command::Export => operands < 3,
+        Command::Audit => operands != 2 && operands != 4,
         _ => false,
     }
 }
