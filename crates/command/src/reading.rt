@@ -118,6 +118,7 @@ fn from_column(
         Command::Export => {
             bitmap_files::export_column(starts, ends, steps, natural(places[RECORDS]))
         }
+        Command::Audit => auditing::audit(starts, ends, steps, places),
         _ => {}
     }
 }
