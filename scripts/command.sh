@@ -34,23 +34,31 @@ loftsplice import BITMAP COUNT OUT
     COUNT records, at most 524,288: record i is bit i mod 8 of byte i / 8, lowest first
 loftsplice export FILE COUNT OUT
     the bitmap of a column that rises, of COUNT records
+loftsplice audit FILE COUNT [START END] [--profile 1|2]
+    which of COUNT records, or of those from START up to but not including END, are
+    filled: how many, how many carry the field, whether that is all of them, where the
+    proof stands; then the filled ones, a range a line, 13..19 from 13 to 19. By profile 1,
+    which needs no word, the column lists the records that carry the field, by profile 2
+    those that leave it empty
 loftsplice help | --help | -h
 loftsplice --version
 
 FILE holds one column as a stored record, and nothing else. For FILE, NUMBERS or BITMAP
 - is standard input, for OUT standard output. The file OUT is written whole, or stays as
 it was. Options stand anywhere before a word --, their values after a space or after =.
-check, list and find take --format csv or --format json.
+check, list, find and audit take --format csv or --format json, audit --format html too.
 
 Answers go to standard output, messages to standard error. The last line there, and the
 exit status:
     refused N NAME        N, for example 'refused 2 ENDS': the input is refused, and why;
                           1 SHAPE: build or import would need over 4,096 runs;
-                          5 WINDOW: END is above the length; 7 ORDER: list, find, export
-                          and check --rising take elements that rise; 11 CUT: BITMAP has
-                          fewer bytes than COUNT records need; 14 COUNT: COUNT is above
-                          524,288; 15 RANGE: an element is not below COUNT, or below 0;
-                          else 2, 3, 11, 12, 13: the record is damaged
+                          5 WINDOW: END is above the length, of audit above COUNT;
+                          7 ORDER: list, find, export, audit and check --rising take
+                          elements that rise; 11 CUT: BITMAP has fewer bytes than COUNT
+                          records need; 14 COUNT: COUNT is above 524,288, of audit above
+                          4,294,967,295; 15 RANGE: an element is not below COUNT, or below
+                          0; 16 PROFILE: it is neither 1 nor 2; else 2, 3, 11, 12, 13: the
+                          record is damaged
     usage                 64: a word is not as above; which is said
     N of M bytes used     65: the file has bytes after its record, and is not answered
     no number             65: a line of NUMBERS is none; which is said

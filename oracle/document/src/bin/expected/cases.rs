@@ -9,7 +9,7 @@ use std::path::Path;
 const CALLS: &str = include_str!("command.calls");
 
 /// Calls with a wrong word, or one too few: the words, and which of them is wrong (from 1 on; one more than there are: it is missing).
-const USAGE: [(&str, usize); 76] = [
+const USAGE: [(&str, usize); 94] = [
     ("", 1),
     ("check", 2),
     ("build", 2),
@@ -33,6 +33,24 @@ const USAGE: [(&str, usize); 76] = [
     ("export bark 2.5 made", 3),
     ("export bark 201 - --rising", 5),
     ("export bark 201 -- --made more", 6),
+    ("audit", 2),
+    ("audit bark", 3),
+    ("audit bark x", 3),
+    ("audit bark -1", 3),
+    ("audit bark 18446744073709551616", 3),
+    ("audit bark 201 0", 5),
+    ("audit bark 201 0 x", 5),
+    ("audit bark 201 0 5 9", 6),
+    ("audit bark 201 --profile", 5),
+    ("audit bark 201 --profile x", 5),
+    ("audit bark 201 --profile=", 4),
+    ("audit bark 201 --profile 1 --profile 2", 6),
+    ("audit bark 201 --format xml", 5),
+    ("audit bark 201 --rising", 4),
+    ("audit bark 201 --from 3", 4),
+    ("list bark --format html", 4),
+    ("find bark 3 --format=html", 4),
+    ("check bark --profile 1", 3),
     ("list", 2),
     ("find", 2),
     ("find bark", 3),
