@@ -1,0 +1,13 @@
+pub mod Differences
+pub mod Middle
+pub mod Highs
+pub mod Lists
+pub mod Stretches
+pub mod Bits
+pub mod Shorts
+pub mod Filling
+pub mod Counting
+pub mod Steps
+pub mod Measures
+pub mod Leaving
+pub mod Cases

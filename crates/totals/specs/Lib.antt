@@ -1,0 +1,4 @@
+pub mod Totals
+pub mod Windows
+pub mod Says
+pub mod Inner
