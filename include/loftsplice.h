@@ -39,7 +39,7 @@ extern "C" {
 #define LOFTSPLICE_MAX_RECORD 57350                  /* bytes of a record, of LOFTSPLICE_MAX_RUNS runs then: LOFTSPLICE_SIZE */
 #define LOFTSPLICE_MAX_BOUNDS 16                     /* bounds in a list: LOFTSPLICE_BOUNDS */
 #define LOFTSPLICE_MAX_INPUTS 8                      /* inputs: LOFTSPLICE_BOUNDS */
-#define LOFTSPLICE_MAX_WINDOWS 256                   /* windows of a listing: LOFTSPLICE_BOUNDS */
+#define LOFTSPLICE_MAX_WINDOWS 256                   /* windows of a listing, or of totals: LOFTSPLICE_BOUNDS */
 #define LOFTSPLICE_MAX_RECORDS 524288                /* records of a bitmap: LOFTSPLICE_COUNT */
 #define LOFTSPLICE_MAX_PROFILE_RECORDS UINT64_C(4294967295) /* records that a profile is read of: LOFTSPLICE_COUNT */
 
@@ -66,7 +66,7 @@ enum {
     LOFTSPLICE_RANGE = 15,  /* export, profile: an element that is no record number */
     LOFTSPLICE_PROFILE = 16, /* a profile that is neither 1 nor 2 */
     LOFTSPLICE_FALLING = 17, /* given by no call yet */
-    LOFTSPLICE_TOTAL = 18,  /* given by no call yet */
+    LOFTSPLICE_TOTAL = 18,  /* totals: the sum over all windows is below -2^95 or not below 2^95, so that it has no high */
     LOFTSPLICE_FORM = 100   /* a number that is no state, kind, mode or found, or two lists that belong together and differ in length */
 };
 
@@ -281,6 +281,18 @@ typedef struct loftsplice_records {
     uint64_t written;
 } loftsplice_records;
 
+/* Over all windows: how many elements there are; found 1 and the least and the greatest, or found 0: there is none, and both are given as 0; and the exact
+ * sum, which is high * 4294967296 + low, with low below 4294967296. */
+typedef struct loftsplice_totalled {
+    uint32_t refusal;
+    uint32_t found;
+    uint64_t count;
+    int64_t least;
+    int64_t greatest;
+    int64_t high;
+    uint64_t low;
+} loftsplice_totalled;
+
 /* ---- layout: these are the sizes and places that the library has (x86-64 Linux). Where a compiler lays a struct out otherwise, it fails here: by a
  * static assertion since C11 and C++11, by an array of a size below 0 before. */
 
@@ -307,6 +319,9 @@ typedef struct loftsplice_records {
     LOFTSPLICE_LAYOUT_4(type, size, a, at_a, b, at_b, c, at_c, d, at_d);                                                                           \
     LOFTSPLICE_LAYOUT_FIELD(type, e, at_e);                                                                                                        \
     LOFTSPLICE_LAYOUT_FIELD(type, f, at_f)
+#define LOFTSPLICE_LAYOUT_7(type, size, a, at_a, b, at_b, c, at_c, d, at_d, e, at_e, f, at_f, g, at_g)                                             \
+    LOFTSPLICE_LAYOUT_6(type, size, a, at_a, b, at_b, c, at_c, d, at_d, e, at_e, f, at_f);                                                         \
+    LOFTSPLICE_LAYOUT_FIELD(type, g, at_g)
 
 LOFTSPLICE_LAYOUT_6(loftsplice_scan, 40, start, 0, end, 8, index, 16, value, 24, state, 32, found, 36);
 LOFTSPLICE_LAYOUT_2(loftsplice_limit, 16, value, 0, kind, 8);
@@ -332,6 +347,7 @@ LOFTSPLICE_LAYOUT_3(loftsplice_imported, 24, refusal, 0, runs, 8, ones, 16);
 LOFTSPLICE_LAYOUT_2(loftsplice_exported, 16, refusal, 0, bytes, 8);
 LOFTSPLICE_LAYOUT_2(loftsplice_carried, 8, refusal, 0, carries, 4);
 LOFTSPLICE_LAYOUT_2(loftsplice_records, 16, refusal, 0, written, 8);
+LOFTSPLICE_LAYOUT_7(loftsplice_totalled, 48, refusal, 0, found, 4, count, 8, least, 16, greatest, 24, high, 32, low, 40);
 
 #undef LOFTSPLICE_LAYOUT_HOLDS
 #undef LOFTSPLICE_LAYOUT_SIZE
@@ -340,6 +356,7 @@ LOFTSPLICE_LAYOUT_2(loftsplice_records, 16, refusal, 0, written, 8);
 #undef LOFTSPLICE_LAYOUT_3
 #undef LOFTSPLICE_LAYOUT_4
 #undef LOFTSPLICE_LAYOUT_6
+#undef LOFTSPLICE_LAYOUT_7
 
 /* ---- the column */
 
@@ -513,6 +530,17 @@ loftsplice_records loftsplice_carrying(uint32_t profile, uint64_t count, const i
 /* The same of those that don't carry it, the filled ones. Each record of the window is written by exactly one of these two calls. O(R + N). */
 loftsplice_records loftsplice_filled(uint32_t profile, uint64_t count, const int64_t *starts, size_t starts_len, const uint64_t *ends, size_t ends_len,
     const int16_t *steps, size_t steps_len, uint64_t start, uint64_t end, uint64_t *out, size_t out_len);
+
+/* ---- exact totals */
+
+/* Of each window from..to, at most LOFTSPLICE_MAX_WINDOWS of them, into the first places of five lists, a place a window: how many elements it has, the least,
+ * the greatest, and the exact sum, that of the elements added one after the other, as highs * 4294967296 + lows, each low below 4294967296. The answer has the
+ * same over all windows; one that occurs twice is counted twice. A window need not rise. One whose start is at or above its end is empty: its count, high and
+ * low are written as 0, and its places of leasts and greatests are left as they were, so read these only where the count is above 0. A window's sum always has
+ * a high; that over all may have none, which is 18, however far the sums on the way went; or refused 1, 2, 3, 8, 5, 18, 10. O(R + W * R). */
+loftsplice_totalled loftsplice_totals(const int64_t *starts, size_t starts_len, const uint64_t *ends, size_t ends_len, const int16_t *steps,
+    size_t steps_len, const uint64_t *from, size_t from_len, const uint64_t *to, size_t to_len, uint64_t *counts, size_t counts_len, int64_t *leasts,
+    size_t leasts_len, int64_t *greatests, size_t greatests_len, int64_t *highs, size_t highs_len, uint64_t *lows, size_t lows_len);
 
 #ifdef __cplusplus
 }

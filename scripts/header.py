@@ -8,7 +8,7 @@ import subprocess
 import sys
 
 HEADER = open('include/loftsplice.h').read()
-TESTS = [open(name).read() for name in ('bindings/c/test.c', 'bindings/c/profiles.c', 'bindings/c/header.c')]
+TESTS = [open(f'bindings/c/{name}.c').read() for name in ('test', 'profiles', 'totals', 'header')]
 ROWS = [[cell.strip() for cell in line.strip('|').split('|')] for line in open('docs/REFERENCE.md') if line.startswith('|')]
 COMPILERS = (('gcc', '-xc', '-std=c99'), ('gcc', '-xc', '-std=c11'), ('g++', '-xc++', '-std=c++11'))
 bad = []

@@ -73,6 +73,19 @@ static void profile_limits(void) {
     HOLDS(loftsplice_carrying(LOFTSPLICE_LISTS_EMPTY, most, starts, 0, ends, 0, steps, 0, 0, most + 1, last, 2).refusal == LOFTSPLICE_WINDOW);
 }
 
+/* The refusal of so many empty windows' totals. */
+static uint32_t totals(size_t windows) {
+    static uint64_t from[over_windows], to[over_windows], counts[over_windows], lows[over_windows];
+    static int64_t leasts[over_windows], greatests[over_windows], highs[over_windows];
+    return loftsplice_totals(starts, 0, ends, 0, steps, 0, from, windows, to, windows, counts, windows, leasts, windows, greatests, windows, highs, windows,
+        lows, windows).refusal;
+}
+
+static void window_limits(void) {
+    HOLDS(totals(LOFTSPLICE_MAX_WINDOWS) == 0);
+    HOLDS(totals(over_windows) == LOFTSPLICE_BOUNDS);
+}
+
 static void other_limits(void) {
     static int64_t values[over_bounds];
     static uint8_t kinds[over_bounds], found[over_inputs];
@@ -143,6 +156,7 @@ int main(void) {
     column_limits();
     bitmap_limits();
     profile_limits();
+    window_limits();
     other_limits();
     refusal_names();
     alignment();
