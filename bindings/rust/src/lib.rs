@@ -54,6 +54,8 @@ mod seek_each;
 #[allow(unsafe_code, reason = "the calls of the proved archive")]
 mod sys;
 #[forbid(unsafe_code)]
+mod totals;
+#[forbid(unsafe_code)]
 mod window;
 
 pub use bound::{Bound, Mode, Unbounded, Variables};
@@ -67,3 +69,4 @@ pub use refusal::{NoRefusal, Refusal};
 pub use run::{Run, Runs};
 pub use scan::{Scan, ScanState};
 pub use seek_each::SeekEach;
+pub use totals::{Total, Totals};

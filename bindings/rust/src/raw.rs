@@ -18,7 +18,7 @@ pub use crate::sys::{
     build, carries, carrying, check, diff_step, export, filled, filter_current, filter_new,
     filter_next, filter_next_run, filter_reset, filter_seek, filter_seek_run, get, import,
     is_empty, len, list, place, read_record, scan_current, scan_narrow, scan_new, scan_next,
-    scan_next_run, scan_pos, scan_reset, scan_seek, scan_seek_run, write_record,
+    scan_next_run, scan_pos, scan_reset, scan_seek, scan_seek_run, totals, write_record,
 };
 pub use filter::{Filter, FilterRan, Limit, NewFilter, Reset, Sifted, Variables};
 
@@ -36,7 +36,7 @@ pub const MAX_PROFILE_RECORDS: u64 = 4_294_967_295;
 pub const MAX_BOUNDS: usize = 16;
 /// Inputs that variable bounds are handed at most; more are refused 8.
 pub const MAX_INPUTS: usize = 8;
-/// Windows that a listing takes at most; more are refused 8.
+/// Windows that a listing, or a call for totals, takes at most; more are refused 8.
 pub const MAX_WINDOWS: usize = 256;
 
 /// Bytes of a record before its first run: length and kind.
@@ -292,4 +292,38 @@ pub struct Records {
     pub refusal: u32,
     /// The number of records written.
     pub written: u64,
+}
+
+/// Over all windows: the number of elements, the least and the greatest, and the exact sum.
+#[repr(C)]
+#[derive(Clone, Copy, Debug, PartialEq, Eq, Hash)]
+pub struct Totalled {
+    /// The refusal's number, or 0.
+    pub refusal: u32,
+    /// 1 if there is an element, and so a least and a greatest, else 0.
+    pub found: u32,
+    /// The number of elements.
+    pub count: u64,
+    /// The least, 0 where `found` is 0.
+    pub least: i64,
+    /// The greatest, 0 where `found` is 0.
+    pub greatest: i64,
+    /// The sum's high.
+    pub high: i64,
+    /// Its low, below 4,294,967,296.
+    pub low: u64,
+}
+
+/// The sum of its high and its low: high × 4,294,967,296 + low.
+///
+/// ```
+/// use loftsplice::raw;
+///
+/// assert_eq!(raw::sum(0, 25), 25);
+/// assert_eq!(raw::sum(-1, 4_294_967_295), -1);
+/// assert_eq!(raw::sum(i64::MIN, 0), -(1 << 95));
+/// ```
+#[must_use]
+pub const fn sum(high: i64, low: u64) -> i128 {
+    high as i128 * 4_294_967_296 + low as i128
 }

@@ -47,7 +47,7 @@ pub enum Refusal {
     Profile,
     /// 17: a run of two or more elements with a negative step. No call of this crate gives it yet.
     Falling,
-    /// 18: a sum over all windows that is out of range. No call of this crate gives it yet.
+    /// 18: a sum over all windows that is below -2^95 or not below 2^95.
     Total,
     /// 100: a number that is no state, kind or `found`, or two lists that belong together and differ in length. Only [`crate::raw`] can give it.
     Form,
@@ -75,7 +75,7 @@ const TABLE: [Row; 19] = [
     (Refusal::Range, 15, "RANGE", "an element is no record number"),
     (Refusal::Profile, 16, "PROFILE", "a profile that is neither 1 nor 2"),
     (Refusal::Falling, 17, "FALLING", "a run of two or more elements with a negative step"),
-    (Refusal::Total, 18, "TOTAL", "a sum over all windows that is out of range"),
+    (Refusal::Total, 18, "TOTAL", "a sum over all windows that is below -2^95 or not below 2^95"),
     (Refusal::Form, 100, "FORM", "a number that is no state, kind or `found`, or two lists that belong together and differ in length"),
 ];
 

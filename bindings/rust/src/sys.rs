@@ -13,6 +13,7 @@ mod profile;
 mod record;
 mod runs;
 mod scan;
+mod totals;
 
 pub use bitmap::{export, import};
 pub use build::build;
@@ -23,3 +24,4 @@ pub use profile::{carries, carrying, filled};
 pub use record::{read_record, write_record};
 pub use runs::{filter_next_run, filter_seek_run, scan_next_run, scan_seek_run};
 pub use scan::{scan_current, scan_narrow, scan_new, scan_next, scan_pos, scan_reset, scan_seek};
+pub use totals::totals;

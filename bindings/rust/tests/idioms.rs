@@ -9,7 +9,8 @@ use std::vec::IntoIter;
 
 use loftsplice::{
     raw, Bound, Column, ColumnBuf, Fields, Filter, FilterState, Mode, NoRefusal, Place, Profile,
-    Record, Refusal, Run, Runs, Scan, ScanState, SeekEach, Unbounded, Values, Variables,
+    Record, Refusal, Run, Runs, Scan, ScanState, SeekEach, Total, Totals, Unbounded, Values,
+    Variables,
 };
 
 /// No runs; one element; 10 15 20 25, 30, 31, 40 140 240; 10 5, 6 7 8; the edges of i64.
@@ -214,6 +215,7 @@ fn traits() {
     value::<(raw::Listed, raw::ReadRecord, raw::Written, raw::Built)>();
     value::<(raw::Imported, raw::Exported)>();
     value::<(Fields<'_>, Profile, raw::Carried, raw::Records)>();
+    value::<(raw::Totalled, Total, Totals)>();
     default::<(
         Column<'_>,
         ColumnBuf,
@@ -223,6 +225,7 @@ fn traits() {
         Variables<'_>,
     )>();
     default::<(raw::Scan, raw::Limit, raw::Variables<'_>)>();
+    default::<(Total, Totals)>();
     fused::<Scan<'_>>();
     fused::<Runs<'_>>();
     fused::<Values<'_>>();
