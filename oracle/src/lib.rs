@@ -61,6 +61,7 @@ pub mod rust;
 #[cfg(not(rust_text))]
 #[path = "rust_absent.rs"]
 pub mod rust;
+pub mod totals;
 
 /// Says who is there, one line each.
 pub fn announce() {

@@ -230,6 +230,7 @@ impl Session {
             Call::Export(count, places) => outputs::exported(runs, *count, *places),
             Call::Carries(profile, count, record) => carries(raw::carries(u32::from(*profile), *count, starts, ends, steps, *record)),
             Call::Profile(fields) => outputs::records(runs, fields),
+            Call::Totals(from, to, places) => outputs::totalled(runs, from, to, *places),
             #[cfg(feature = "listing")]
             Call::List(l) => outputs::listed(runs, l, desk),
             #[cfg(feature = "record")]

@@ -1,7 +1,7 @@
 //! Random columns, sound and damaged, up to every limit; long sequences on them; listings; records cut and damaged.
 use crate::calls::*;
 use crate::compare::{Bench, Tally, alone, by_hand, sequence};
-use crate::{bitmaps, lists, model, profiles};
+use crate::{bitmaps, lists, model, profiles, totals};
 
 /// SplitMix64: the same seed gives the same run.
 pub struct Dice(pub u64);
@@ -114,7 +114,7 @@ fn index(d: &mut Dice, c: &model::Column) -> u64 {
 }
 
 /// A window; now and then one that is refused, empty or beyond.
-fn window(d: &mut Dice, c: &model::Column) -> (u64, u64) {
+pub fn window(d: &mut Dice, c: &model::Column) -> (u64, u64) {
     let length = c.check().unwrap_or(0);
     let (a, b) = (index(d, c), index(d, c));
     match d.below(20) {
@@ -355,6 +355,7 @@ pub fn round(d: &mut Dice, most: u64, tally: &mut Tally) {
     lists::round(d, &mut bench, tally);
     bitmaps::round(d, &mut bench, tally);
     profiles::round(d, &mut bench, tally);
+    totals::round(d, &mut bench, tally);
 }
 
 /// A scan put together by hand, mostly one that no call gives, a filter's mode and state, and calls to start from them.

@@ -172,7 +172,7 @@ fn by_rust(case: &Case, column: &model::Column, by_model: &Answers) -> Answers {
             };
             answers.push(match &line.call {
                 Call::Set(_) | Call::FilterSet(..) | Call::Read(..) | Call::Write(_) => None,
-                Call::Build(..) | Call::Import(..) | Call::Export(..) | Call::Carries(..) | Call::Profile(_) => None,
+                Call::Build(..) | Call::Import(..) | Call::Export(..) | Call::Carries(..) | Call::Profile(_) | Call::Totals(..) => None,
                 // Nor is a filter in another mode than its own: it is left out of the rest.
                 Call::FilterNew(Wins::Exclusive, ..) => {
                     dead = true;

@@ -15,13 +15,13 @@ fn differences(text: &str) -> Vec<String> {
 }
 
 /// P1 to P12, document 02's places, the cases of request 4, scans that do not carry what they stand on, cuts and chained seeks, runs of
-/// calls on a scan and on a filter, runs built from lists, presence bitmaps, columns read by profile, with every side that is there.
+/// calls on a scan and on a filter, runs built from lists, presence bitmaps, columns read by profile, exact totals, with every side that is there.
 #[test]
 fn examples_of_the_documents() {
     let cases = corpus::cases(EXAMPLES).expect("the examples");
-    assert_eq!(cases.len(), 70);
+    assert_eq!(cases.len(), 80);
     let lines: usize = cases.iter().map(|c| c.lines.len()).sum();
-    assert_eq!(lines, 405);
+    assert_eq!(lines, 438);
     assert_eq!(differences(EXAMPLES), Vec::<String>::new());
 }
 
@@ -83,6 +83,8 @@ fn every_call_reads_back() {
         Call::Export(u64::MAX, 0),
         Call::Carries(255, u64::MAX, 0),
         Call::Profile(Fields { profile: 0, count: u64::MAX, start: u64::MAX, end: 7, carry: false, places: usize::MAX }),
+        Call::Totals(vec![], vec![u64::MAX, 1, 1], [2; 5]),
+        Call::Totals(vec![0, 5], vec![3], [0, 1, 2, 3, usize::MAX]),
     ] {
         assert_eq!(corpus::call(&call.to_string()), Ok(call.clone()), "{call}");
     }
@@ -110,6 +112,19 @@ fn short_forms_of_bytes() {
     }
 }
 
+/// Leasts and greatests in their short forms, both or neither.
+#[test]
+fn short_forms_of_edges() {
+    let said = |least: &str, greatest: &str| corpus::expected(&format!("all 1 5 5 0 5 counts 0*2,1 least {least} greatest {greatest} high 0*3 low 0*2,5"));
+    let written = said("?*2,5", "?,?,5").expect("an answer");
+    assert_eq!(written, said("?,?*1,5*1", "?*2,5~3*1").expect("an answer"));
+    assert_eq!(written.said.to_string(), "all 1 5 5 0 5 counts 0,0,1 least ?,?,5 greatest ?,?,5 high 0,0,0 low 0,0,5");
+    for (least, greatest) in [("?,?,5", "?,5,5"), ("?,5", "?,5"), ("-", "-"), ("?,?,?~1*1", "?*3"), ("?*2,", "?*2,"), ("??,?,5", "?,?,5")] {
+        assert!(said(least, greatest).is_err(), "{least} {greatest}");
+    }
+    assert!(corpus::expected("all 1 5 ? 0 5 counts - least - greatest - high - low -").is_err());
+}
+
 /// Each answer of the examples, changed, is noticed.
 #[test]
 fn a_wrong_answer_is_noticed() {
@@ -125,13 +140,25 @@ fn a_wrong_answer_is_noticed() {
                 wrong.push(format!("{said} | {}", numbers.join(" ")));
             }
         }
+        // Another least, greatest, high or low, of one window or of all.
+        if answer.starts_with("all ") {
+            let words: Vec<&str> = answer.split(' ').collect();
+            for at in [1, 2, 3, 4, 5, 7, 9, 11, 13, 15].into_iter().filter(|at| words[*at] != "-") {
+                let mut words = words.clone();
+                let changed = words[at].rsplit_once(',').map_or("6".into(), |(before, _)| format!("{before},6"));
+                words[at] = &changed;
+                wrong.push(words.join(" "));
+            }
+        }
         for wrong in wrong {
             let changed = format!("{words} -> {wrong}");
             // The case that it stands in, by itself.
             let from = lines[..i].iter().rposition(|l| l.starts_with("case ")).unwrap();
             let to = i + lines[i..].iter().position(|l| *l == "end").unwrap();
             let text = [&lines[from..i], &[changed.as_str()], &lines[i + 1..=to]].concat();
-            assert!(!differences(&text.join("\n")).is_empty(), "{changed}");
+            // A least without its greatest is no answer at all.
+            let unread = corpus::cases(&text.join("\n")).is_err();
+            assert!(unread || !differences(&text.join("\n")).is_empty(), "{changed}");
         }
     }
 }
@@ -161,6 +188,8 @@ fn bad_files() {
         (&format!("{head}fset strict B x1 -> ok\nend\n"), "line 5"),
         (&format!("{head}fset strict W -> ok\nend\n"), "line 5"),
         (&format!("{head}list 1 0 1 - - 1 1 -> r 5\nend\n"), "line 5"),
+        (&format!("{head}totals 0 1 1 1 -> r 5\nend\n"), "line 5"),
+        (&format!("{head}totals 0 -1 1 -> r 5\nend\n"), "line 5"),
         (head, "ends inside a case"),
     ] {
         let error = corpus::cases(text).expect_err(text);

@@ -294,6 +294,47 @@ fn profiles_are_the_elements_and_opposite() {
     assert!(tried > 40_000 && refused > 200, "{tried}, {refused}");
 }
 
+/// Document 02, request 11: "The total equals adding the elements one after the other", also where a stretch is long; of a cut window the totals are those of
+/// its parts together, and a window that occurs twice is counted twice.
+#[test]
+fn totals_are_added_up() {
+    let worth = |t: &Total| i128::from(t.high) * (1 << 32) + i128::from(t.low);
+    let ask = |column: &Column, windows: &[(u64, u64)]| {
+        let (from, to): (Vec<u64>, Vec<u64>) = windows.iter().copied().unzip();
+        match Session::new(column).call(&Call::Totals(from, to, [windows.len(); 5])) {
+            Said::Totalled { all, windows } => (all, windows),
+            other => panic!("{other}"),
+        }
+    };
+    let mut dice = oracle::random::Dice(11);
+    let mut long = 0;
+    for _ in 0..400 {
+        let runs = Runs::of(&[
+            (dice.below(2000) as i64 - 1000, dice.below(9) as i16 - 4, 1 + dice.below(3000)),
+            (dice.word() as i64 / 2, dice.word() as i16, 1 + dice.below(1500)),
+            (i64::MIN, 0, 1 + dice.below(3)),
+        ]);
+        let column = Column::new(&runs);
+        let length = column.check().unwrap();
+        let (start, end) = (dice.below(length + 1), dice.below(length + 1));
+        let elements: Vec<i64> = (start..end).map(|i| column.at(i)).collect();
+        let (all, windows) = ask(&column, &[(start, end)]);
+        assert_eq!(all, windows[0]);
+        assert!(all.low < 1 << 32);
+        assert_eq!(worth(&all), elements.iter().map(|e| i128::from(*e)).sum::<i128>());
+        assert_eq!(all.count, elements.len() as u64);
+        assert_eq!(all.edges, elements.iter().min().copied().zip(elements.iter().max().copied()));
+        long += u32::from(elements.len() > 1500);
+        if start <= end {
+            let middle = start + dice.below(end - start + 1);
+            assert_eq!(ask(&column, &[(start, middle), (middle, end)]).0, all);
+            let twice = ask(&column, &[(start, end), (start, end)]).0;
+            assert_eq!((twice.count, twice.edges, worth(&twice)), (2 * all.count, all.edges, 2 * worth(&all)));
+        }
+    }
+    assert!(long > 20, "{long}");
+}
+
 /// The order of refusals: an input that could be refused by several numbers is refused by the one that document 01 tries first.
 #[test]
 fn order_of_refusals() {

@@ -119,9 +119,20 @@ pub enum Call {
     /// Profile, record count and record.
     Carries(u8, u64, u64),
     Profile(Fields),
+    /// The windows' starts and ends, and the places of the five outputs: counts, leasts, greatests, highs, lows.
+    Totals(Vec<u64>, Vec<u64>, [usize; 5]),
 }
 
-/// What a call said. The six with arrays hold the answer's own places; the places beyond are looked at where the call is made (`Filled::whole`).
+/// Of a window, or of all: the number of elements, the least and the greatest, and the exact sum as high and low.
+#[derive(Clone, Copy, Debug, PartialEq, Eq)]
+pub struct Total {
+    pub count: u64,
+    pub edges: Option<(i64, i64)>,
+    pub high: i64,
+    pub low: u64,
+}
+
+/// What a call said. The seven with arrays hold the answer's own places; the places beyond are looked at where the call is made (`Filled::whole`).
 #[derive(Clone, Debug, PartialEq, Eq)]
 pub enum Said {
     None,
@@ -140,6 +151,7 @@ pub enum Said {
     Written(Vec<u8>),
     Built(Runs),
     Imported { ones: u64, runs: Runs },
+    Totalled { all: Total, windows: Vec<Total> },
 }
 
 /// What the places of an output hold before a call.

@@ -1,6 +1,7 @@
 //! The text format of call sequences and answers (documents CORPUS and CORPUS2): printing, and reading any file of that format. A run of calls, which they
 //! do not have, is `nextrun <places>` and `seekrun <targets> <places>`, its answer `n <n> out <list>` and the scan after it; of a filter `fnextrun <vlower>
-//! <vupper> <inputs> <places>` and `fseekrun <targets> <vlower> <vupper> <inputs> <places>`.
+//! <vupper> <inputs> <places>` and `fseekrun <targets> <vlower> <vupper> <inputs> <places>`. The five outputs of `totals` may differ in places: then all five
+//! numbers stand there.
 use crate::calls::*;
 use crate::model::Sieve;
 use std::fmt::Display;
@@ -138,6 +139,8 @@ impl Display for Call {
             Call::Profile(Fields { profile, count, start, end, carry, places }) => {
                 write!(f, "profile {profile} {count} {start} {end} {} {places}", if *carry { "do" } else { "dont" })
             }
+            Call::Totals(from, to, p) if p.iter().all(|q| *q == p[0]) => write!(f, "totals {} {} {}", list(from), list(to), p[0]),
+            Call::Totals(from, to, p) => write!(f, "totals {} {} {} {} {} {} {}", list(from), list(to), p[0], p[1], p[2], p[3], p[4]),
         }
     }
 }
@@ -147,6 +150,26 @@ impl Display for Runs {
     fn fmt(&self, f: &mut std::fmt::Formatter<'_>) -> std::fmt::Result {
         write!(f, "starts {} ends {} steps {}", list(&self.starts), list(&self.ends), list(&self.steps))
     }
+}
+
+/// Over all windows.
+impl Display for Total {
+    fn fmt(&self, f: &mut std::fmt::Formatter<'_>) -> std::fmt::Result {
+        write!(f, "all {} {} {} {} {}", self.count, edge(self.edges.map(|e| e.0)), edge(self.edges.map(|e| e.1)), self.high, self.low)
+    }
+}
+
+/// A least or a greatest; `?` where there is none.
+fn edge(value: Option<i64>) -> String {
+    value.map_or("?".into(), |v| v.to_string())
+}
+
+/// Window by window.
+fn totals(windows: &[Total]) -> String {
+    let each = |one: &dyn Fn(&Total) -> String| list(windows.iter().map(one));
+    let (least, greatest) = (each(&|t| edge(t.edges.map(|e| e.0))), each(&|t| edge(t.edges.map(|e| e.1))));
+    let (counts, high, low) = (each(&|t| t.count.to_string()), each(&|t| t.high.to_string()), each(&|t| t.low.to_string()));
+    format!("counts {counts} least {least} greatest {greatest} high {high} low {low}")
 }
 
 impl Display for Said {
@@ -166,6 +189,7 @@ impl Display for Said {
             Said::Built(runs) => write!(f, "runs {} {runs}", runs.starts.len()),
             Said::Imported { ones, runs } => write!(f, "runs {} ones {ones} {runs}", runs.starts.len()),
             Said::Written(b) => write!(f, "bytes {} {}", b.len(), hex(b)),
+            Said::Totalled { all, windows } => write!(f, "{all} {}", totals(windows)),
         }
     }
 }
@@ -182,7 +206,7 @@ pub fn has_state(call: &Call, said: &Said) -> bool {
         Call::New => !matches!(said, Said::Refused(_)),
         Call::Check | Call::Place(_) | Call::Element(_) | Call::Diff(..) => false,
         Call::Set(_) | Call::FilterSet(..) | Call::List(_) | Call::Read(..) | Call::Write(_) => false,
-        Call::Build(..) | Call::Import(..) | Call::Export(..) | Call::Carries(..) | Call::Profile(_) => false,
+        Call::Build(..) | Call::Import(..) | Call::Export(..) | Call::Carries(..) | Call::Profile(_) | Call::Totals(..) => false,
         _ => true,
     }
 }
@@ -356,6 +380,8 @@ pub fn call(text: &str) -> Parsed<Call> {
             carry: does(which)?,
             places: number(p)?,
         }),
+        ["totals", s, e, p] => Call::Totals(numbers(s)?, numbers(e)?, [number(p)?; 5]),
+        ["totals", s, e, c, l, g, h, w] => Call::Totals(numbers(s)?, numbers(e)?, [number(c)?, number(l)?, number(g)?, number(h)?, number(w)?]),
         _ => return Err(format!("'{text}' is no call")),
     })
 }
@@ -368,6 +394,40 @@ fn runs(n: &str, [starts, ends, steps]: [&str; 3]) -> Parsed<Runs> {
         return Err(format!("{count} runs are said, and lists of another length follow"));
     }
     Ok(runs)
+}
+
+/// Leasts or greatests: a list in which `?` stands for none, also as `?*n`.
+fn edges(word: &str) -> Parsed<Vec<Option<i64>>> {
+    let several = |item: &str| -> Parsed<Vec<Option<i64>>> {
+        match item.split_once('*') {
+            None if item == "?" => Ok(vec![None]),
+            Some(("?", count)) => Ok(vec![None; number::<u32>(count)? as usize]),
+            _ => Ok(numbers(item)?.into_iter().map(Some).collect()),
+        }
+    };
+    Ok(items(word, several)?.into_iter().flatten().collect())
+}
+
+/// A least and a greatest: both are there, or neither.
+fn pair(least: Option<i64>, greatest: Option<i64>) -> Parsed<Option<(i64, i64)>> {
+    match (least, greatest) {
+        (Some(least), Some(greatest)) => Ok(Some((least, greatest))),
+        (None, None) => Ok(None),
+        _ => Err("of least and greatest one is missing".into()),
+    }
+}
+
+/// Totals as an answer has them: those over all, and five lists with an item a window.
+fn totalled([n, least, greatest, high, low]: [&str; 5], lists: [&str; 5]) -> Parsed<Said> {
+    let one = |word: &str| if word == "?" { Ok(None) } else { number(word).map(Some) };
+    let all = Total { count: number(n)?, edges: pair(one(least)?, one(greatest)?)?, high: number(high)?, low: number(low)? };
+    let (counts, leasts, greatests) = (numbers(lists[0])?, edges(lists[1])?, edges(lists[2])?);
+    let (highs, lows): (Vec<i64>, Vec<u64>) = (numbers(lists[3])?, numbers(lists[4])?);
+    if [leasts.len(), greatests.len(), highs.len(), lows.len()] != [counts.len(); 4] {
+        return Err("the lists of windows differ in length".into());
+    }
+    let window = |i: usize| Ok(Total { count: counts[i], edges: pair(leasts[i], greatests[i])?, high: highs[i], low: lows[i] });
+    Ok(Said::Totalled { all, windows: (0..counts.len()).map(window).collect::<Parsed<_>>()? })
 }
 
 fn said(text: &str) -> Parsed<Said> {
@@ -395,6 +455,7 @@ fn said(text: &str) -> Parsed<Said> {
         ["runs", n, "used", used, "starts", s, "ends", e, "steps", t] => Said::Read { used: number(used)?, runs: runs(n, [s, e, t])? },
         ["runs", n, "starts", s, "ends", e, "steps", t] => Said::Built(runs(n, [s, e, t])?),
         ["runs", n, "ones", ones, "starts", s, "ends", e, "steps", t] => Said::Imported { ones: number(ones)?, runs: runs(n, [s, e, t])? },
+        ["all", n, l, g, h, w, "counts", cs, "least", ls, "greatest", gs, "high", hs, "low", ws] => totalled([n, l, g, h, w], [cs, ls, gs, hs, ws])?,
         ["bytes", n, b] => {
             let b = bytes(b)?;
             if b.len() != number::<usize>(n)? {
@@ -451,7 +512,7 @@ fn case(rest: &str) -> Parsed<Case> {
     let [n, kind, by] = rest.split(' ').collect::<Vec<_>>()[..] else {
         return Err(format!("'case {rest}' is not number, kind and by"));
     };
-    let kinds = ["scan", "filter", "mixed", "far", "column", "raw", "list", "read", "write", "build", "import", "export", "profile"];
+    let kinds = ["scan", "filter", "mixed", "far", "column", "raw", "list", "read", "write", "build", "import", "export", "profile", "totals"];
     // CORPUS2 has the request from which on the case holds in its place, and any word for the kind; the Rust does not play such a case.
     let from = by.parse::<u32>().is_ok();
     if !from && !kinds.contains(&kind) {

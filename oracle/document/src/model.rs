@@ -6,6 +6,7 @@ use std::cell::Cell;
 
 mod bitmap;
 mod profile;
+mod totals;
 
 pub const SHAPE: u32 = 1;
 pub const ENDS: u32 = 2;
@@ -23,6 +24,7 @@ pub const SIZE: u32 = 13;
 pub const COUNT: u32 = 14;
 pub const RANGE: u32 = 15;
 pub const PROFILE: u32 = 16;
+pub const TOTAL: u32 = 18;
 
 const LONGEST: u64 = 4_294_967_295;
 const MOST_RUNS: usize = 4096;
@@ -296,6 +298,7 @@ impl<'a> Session<'a> {
             Call::Export(count, places) => bitmap::export(self.column, *count, *places)?,
             Call::Carries(profile, count, record) => profile::carries(self.column, *profile, *count, *record)?,
             Call::Profile(fields) => profile::list(self.column, fields)?,
+            Call::Totals(from, to, places) => totals::totals(self.column, from, to, *places)?,
         })
     }
 

@@ -6,7 +6,7 @@
 use oracle::calls::*;
 use oracle::compare::{self, Bench, Tally, alone, by_hand, sequence};
 use oracle::random::{self, Dice};
-use oracle::{bitmaps, corpus, lists, model, profiles, rust};
+use oracle::{bitmaps, corpus, lists, model, profiles, rust, totals};
 use std::io::Write;
 
 fn main() {
@@ -69,7 +69,9 @@ fn as_rattle(_: &str, _: u64, _: u64) {
 fn case(d: &mut Dice, number: u64, tally: &mut Tally) -> String {
     let most = if d.once_in(20) { 300 } else { 12 };
     let mut runs = random::column(d, most);
-    let kind = d.pick(&["scan", "scan", "filter", "filter", "mixed", "mixed", "column", "raw", "list", "read", "write", "build", "import", "export", "profile"]);
+    let kind = d.pick(&[
+        "scan", "scan", "filter", "filter", "mixed", "mixed", "column", "raw", "list", "read", "write", "build", "import", "export", "profile", "totals",
+    ]);
     if (["column", "write"].contains(&kind) && d.once_in(2)) || d.once_in(25) {
         random::damage(d, &mut runs);
     }
@@ -107,7 +109,7 @@ fn case(d: &mut Dice, number: u64, tally: &mut Tally) -> String {
             let lines = calls.iter().map(|call| format!("{call} -> {}\n", alone(&mut bench, call, tally)));
             whole(number, kind, false, &runs, lines.collect())
         }
-        "list" | "write" | "read" | "build" | "import" | "export" => {
+        "list" | "write" | "read" | "build" | "import" | "export" | "totals" => {
             let call = match kind {
                 "list" => {
                     let wins = d.pick(&[Wins::Inclusive, Wins::Exclusive]);
@@ -117,6 +119,7 @@ fn case(d: &mut Dice, number: u64, tally: &mut Tally) -> String {
                 "read" => random::record(d, &c),
                 "build" => random_build(d),
                 "import" => random_import(d),
+                "totals" => totals::random(d, &c),
                 _ => {
                     let count = d.pick(&counts);
                     Call::Export(count, bitmaps::need(count).saturating_add_signed(d.pick(&[0, 0, 0, 2, -1])))

@@ -2,7 +2,7 @@
 use oracle::calls::Runs;
 use oracle::compare::{Tally, quiet_panics};
 use oracle::random::Dice;
-use oracle::{bitmaps, exhaustive, lists, port, profiles, random, rust};
+use oracle::{bitmaps, exhaustive, lists, port, profiles, random, rust, totals};
 use std::time::{Duration, Instant};
 
 fn main() {
@@ -35,6 +35,8 @@ fn main() {
     say("with bitmaps", &tally, begun);
     profiles::everything(if long { 1 } else { 7 }, &mut tally);
     say("with profiles", &tally, begun);
+    totals::everything(if long { 1 } else { 20 }, &mut tally);
+    say("with totals", &tally, begun);
     everything(&mut tally, levels, if long { 3 } else { 29 }, begun);
     randomly(&mut tally, seconds.saturating_sub(begun.elapsed()).max(Duration::from_secs(5)), seed.wrapping_add(1), begun);
     say("with random", &tally, begun);

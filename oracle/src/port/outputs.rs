@@ -126,6 +126,32 @@ fn as_bytes(places: usize, call: impl FnOnce(&mut [u8]) -> (u32, u64)) -> Said {
     if refusal == 0 { Said::Written(out) } else { Said::Refused(refusal) }
 }
 
+/// Of an empty window the places of least and greatest must hold what they held, too.
+pub(super) fn totalled(runs: &Runs, from: &[u64], to: &[u64], places: [usize; 5]) -> Said {
+    let (mut counts, mut lows) = (vec![COUNT; places[0]], vec![COUNT; places[4]]);
+    let (mut leasts, mut greatests, mut highs) = (vec![OUT; places[1]], vec![OUT; places[2]], vec![OUT; places[3]]);
+    let answer =
+        raw::totals(&runs.starts, &runs.ends, &runs.steps, from, to, &mut counts, &mut leasts, &mut greatests, &mut highs, &mut lows);
+    let n = if answer.refusal == 0 { from.len() } else { 0 };
+    untouched(&counts[n..], COUNT);
+    untouched(&leasts[n..], OUT);
+    untouched(&greatests[n..], OUT);
+    untouched(&highs[n..], OUT);
+    untouched(&lows[n..], COUNT);
+    assert!(answer.found == 1 || (answer.least, answer.greatest) == (0, 0), "a least or greatest where there is none");
+    if answer.refusal != 0 {
+        assert!((answer.found, answer.count, answer.high, answer.low) == (0, 0, 0, 0), "a total and a refusal");
+        return Said::Refused(answer.refusal);
+    }
+    let edges = (answer.found == 1).then_some((answer.least, answer.greatest));
+    let window = |i: usize| {
+        let edges = (counts[i] > 0).then_some((leasts[i], greatests[i]));
+        assert!(edges.is_some() || (leasts[i], greatests[i]) == (OUT, OUT), "a least or greatest of an empty window was written");
+        Total { count: counts[i], edges, high: highs[i], low: lows[i] }
+    };
+    Said::Totalled { all: Total { count: answer.count, edges, high: answer.high, low: answer.low }, windows: (0..n).map(window).collect() }
+}
+
 fn untouched<T: PartialEq + std::fmt::Debug>(places: &[T], held: T) {
     if let Some(at) = places.iter().position(|p| *p != held) {
         panic!("a place beyond the answer was written: {at} from its end holds {:?}", places[at]);
