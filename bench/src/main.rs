@@ -41,6 +41,7 @@ mod profiles;
 mod record;
 mod runs;
 mod sifting;
+mod totals;
 
 use clock::Clock;
 
@@ -67,6 +68,7 @@ fn main() {
     building::measure(&mut clock);
     bitmaps::measure(&mut clock);
     profiles::measure(&mut clock);
+    totals::measure(&mut clock);
     let table = page::table(&clock);
     println!("{table}");
     if !clock.only.is_empty() {
