@@ -26,6 +26,9 @@ loftsplice find FILE --numbers NUMBERS [--filled | --count]
     for each number K a line: 'K carried at index I', or 'K filled'; the numbers are
     the words K, or the lines of the file NUMBERS;
     with --filled only the lines of those that are filled, with --count the two sums
+loftsplice totals FILE [START END]..
+    for each window, or for all of the column, a line: how many elements it has, the
+    least, the greatest and the exact sum; then the same over all windows, at most 256
 loftsplice build NUMBERS
     the record of the column that is built from the lines of the file NUMBERS, at most
     524,288, each a number, in runs as long as they get: to standard output
@@ -46,7 +49,7 @@ loftsplice --version
 FILE holds one column as a stored record, and nothing else. For FILE, NUMBERS or BITMAP
 - is standard input, for OUT standard output. The file OUT is written whole, or stays as
 it was. Options stand anywhere before a word --, their values after a space or after =.
-check, list, find and audit take --format csv or --format json, audit --format html too.
+check, list, find, totals and audit take --format csv or --format json, audit --format html too.
 
 Answers go to standard output, messages to standard error. The last line there, and the
 exit status:
@@ -54,11 +57,13 @@ exit status:
                           1 SHAPE: build or import would need over 4,096 runs;
                           5 WINDOW: END is above the length, of audit above COUNT;
                           7 ORDER: list, find, export, audit and check --rising take
-                          elements that rise; 11 CUT: BITMAP has fewer bytes than COUNT
-                          records need; 14 COUNT: COUNT is above 524,288, of audit above
+                          elements that rise; 8 BOUNDS: there are over 256 windows;
+                          11 CUT: BITMAP has fewer bytes than COUNT records need;
+                          14 COUNT: COUNT is above 524,288, of audit above
                           4,294,967,295; 15 RANGE: an element is not below COUNT, or below
-                          0; 16 PROFILE: it is neither 1 nor 2; else 2, 3, 11, 12, 13: the
-                          record is damaged
+                          0; 16 PROFILE: it is neither 1 nor 2; 18 TOTAL: the sum over all
+                          windows is below -2^95 or not below 2^95; else 2, 3, 11, 12, 13:
+                          the record is damaged
     usage                 64: a word is not as above; which is said
     N of M bytes used     65: the file has bytes after its record, and is not answered
     no number             65: a line of NUMBERS is none; which is said

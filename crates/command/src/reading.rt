@@ -119,6 +119,7 @@ fn from_column(
             bitmap_files::export_column(starts, ends, steps, natural(places[RECORDS]))
         }
         Command::Audit => auditing::audit(starts, ends, steps, places),
+        Command::Totals => totalling::total_windows(starts, ends, steps, places),
         _ => {}
     }
 }

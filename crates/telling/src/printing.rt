@@ -33,7 +33,7 @@ fn reason(why: Refusal) {
         Refusal::Range => message(b"an element is no record number\n"),
         Refusal::Profile => message(b"the profile is neither 1 nor 2\n"),
         Refusal::Falling => message(b"a run falls\n"),
-        Refusal::Total => message(b"the sum over all windows is too large\n"),
+        Refusal::Total => message(b"the sum over all windows is out of range\n"),
     }
 }
 

@@ -169,6 +169,17 @@ fn counted(word: &[u8], operand: usize, i: usize, places: &mut [usize; 16]) -> u
     1
 }
 
+// Takes an edge of a window, of which there may be many: after the file, operand 2 is a start and operand 3 its end.
+fn edge(word: &[u8], operands: usize, i: usize, places: &mut [usize; 16]) -> usize {
+    match read_unsigned(word) {
+        Unsigned::Not => wrong(i, 1, places),
+        Unsigned::Is(_) => {
+            places[OPERANDS] = if operands == 2 { 3 } else { 2 };
+            1
+        }
+    }
+}
+
 // Takes a word that is no option: the file first.
 fn operand(command: Command, word: &[u8], i: usize, places: &mut [usize; 16]) -> usize {
     let operands = places[OPERANDS];
@@ -183,6 +194,7 @@ fn operand(command: Command, word: &[u8], i: usize, places: &mut [usize; 16]) ->
         Command::Audit => index(word, operands, 3, i, places),
         Command::Import => counted(word, operands, i, places),
         Command::Export => counted(word, operands, i, places),
+        Command::Totals => edge(word, operands, i, places),
         _ => wrong(i, 0, places),
     }
 }
@@ -257,6 +269,9 @@ fn named(word: &[u8]) -> Command {
     }
     if check::same(word, b"audit") {
         return Command::Audit;
+    }
+    if check::same(word, b"totals") {
+        return Command::Totals;
     }
     Command::Wrong
 }

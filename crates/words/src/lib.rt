@@ -5,3 +5,4 @@ pub mod numbers;
 pub mod options;
 pub mod places;
 mod together;
+pub mod windows;

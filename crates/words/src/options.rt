@@ -26,6 +26,7 @@ pub enum Command {
     Import,
     Export,
     Audit,
+    Totals,
     Wrong,
 }
 
@@ -129,6 +130,7 @@ fn tells(command: Command) -> bool {
         Command::List => true,
         Command::Find => true,
         Command::Audit => true,
+        Command::Totals => true,
         _ => false,
     }
 }

@@ -1,8 +1,8 @@
 // Where the words stand that the command is called with: for each thing that can be asked for an argument's number, 0 where it is not asked for.
 // An array of numbers, since it is filled word by word and lent to each function that reads one.
 
-// operands: the file that is read; of `list` the window; of `import` and `export` how many records there are, and the file to write; of `audit` how
-// many there are, and the window of them
+// operands: the file that is read; of `list` the window (those of `totals`, which may be many, are read again: windows); of `import` and `export` how
+// many records there are, and the file to write; of `audit` how many there are, and the window of them
 pub const FILE: usize = 0;
 
 pub const START: usize = 1;
@@ -51,7 +51,7 @@ pub const COUNT: usize = 11;
 // `--`, after which no word is an option
 pub const PLAIN: usize = 12;
 
-// how many operands there are; of `find` up to 2, and then the second is a number
+// how many operands there are; of `find` up to 2, and then the second is a number; of `totals` up to 3: 2 where a window has a start and no end
 pub const OPERANDS: usize = 13;
 
 // the first word that is not understood, or that is missing, and 1 where a number was wanted there

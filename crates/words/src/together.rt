@@ -23,6 +23,7 @@ fn incomplete(command: Command, operands: usize, numbers: usize) -> bool {
         Command::Import => operands < 3,
         Command::Export => operands < 3,
         Command::Audit => operands != 2 && operands != 4,
+        Command::Totals => operands == 2,
         _ => false,
     }
 }

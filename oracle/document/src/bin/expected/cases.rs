@@ -9,7 +9,7 @@ use std::path::Path;
 const CALLS: &str = include_str!("command.calls");
 
 /// Calls with a wrong word, or one too few: the words, and which of them is wrong (from 1 on; one more than there are: it is missing).
-const USAGE: [(&str, usize); 94] = [
+const USAGE: [(&str, usize); 104] = [
     ("", 1),
     ("check", 2),
     ("build", 2),
@@ -51,6 +51,16 @@ const USAGE: [(&str, usize); 94] = [
     ("list bark --format html", 4),
     ("find bark 3 --format=html", 4),
     ("check bark --profile 1", 3),
+    ("totals", 2),
+    ("totals bark 1", 4),
+    ("totals bark 1 2 3", 6),
+    ("totals bark 1 x", 4),
+    ("totals bark -1 2", 3),
+    ("totals bark 1 18446744073709551616", 4),
+    ("totals bark 1 2 --rising", 5),
+    ("totals bark --from 1", 3),
+    ("totals bark 0 2 --format xml", 6),
+    ("totals bark -- 1 --format", 5),
     ("list", 2),
     ("find", 2),
     ("find bark", 3),
@@ -131,6 +141,14 @@ fn files() -> Vec<(&'static str, Vec<u8>)> {
         ("mosts", written(&Runs::of(&most)).repeat(2)),
         ("far", [&bark[..], &[7; 200_000]].concat()),
         ("none", record(2, 1, &[])),
+        // its name is a number
+        ("7", bark.clone()),
+        ("greatest", record(16, 1, &[(i64::MAX, 0, u32::MAX)])),
+        ("least", record(16, 1, &[(i64::MIN, 0, u32::MAX)])),
+        ("zeroes", record(30, 1, &[(0, 0, 1), (-1, 0, 9)])),
+        // sums of each number of digits: 1, 10, 100 ..
+        ("tens", written(&Runs::of(&(0..19).map(|k| (10i64.pow(k), 0, 1)).collect::<Vec<_>>()))),
+        ("nines", written(&Runs::of(&(1..19).map(|k| (1 - 10i64.pow(k), 0, 1)).collect::<Vec<_>>()))),
         ("most", written(&Runs::of(&most))),
         ("over", record(30, 1, &[(0, 0, u32::MAX), (0, 0, 1)])),
         ("full", record(16, 1, &[(i64::MIN, 32767, u32::MAX)])),
@@ -181,7 +199,9 @@ pub fn cases(folder: &Path) {
     let split = |line: &str| line.split_whitespace().map(String::from).collect::<Vec<_>>();
     let held = |name: &str| files.iter().find(|(n, _)| *n == name).unwrap_or_else(|| panic!("no file {name}")).1.clone();
     let mut rows: Vec<Case> = Vec::new();
-    for line in CALLS.lines() {
+    // as many windows as there may be, and one more
+    let many = [256, 257].map(|n| format!("totals long{}", (0..n).map(|i| format!(" {} {}", i * 7, i * 13)).collect::<String>()));
+    for line in CALLS.lines().chain(many.iter().map(String::as_str)) {
         let (line, input) = line.split_once(" < ").map_or((line, vec![]), |(line, name)| (line, held(name)));
         let words = split(line);
         let read = |name: &str| if name == "-" { input.clone() } else { held(name) };
@@ -208,7 +228,7 @@ pub fn cases(folder: &Path) {
 }
 
 /// Files that are not there, a folder, no name, and names that are too long.
-fn without_file() -> [Vec<String>; 14] {
+fn without_file() -> [Vec<String>; 15] {
     let check = |name: &str| vec!["check".to_string(), name.to_string()];
     let find = ["find", "nofile", "3"].map(String::from).to_vec();
     let list = ["list", "nofile"].map(String::from).to_vec();
@@ -217,5 +237,6 @@ fn without_file() -> [Vec<String>; 14] {
     let build = |name: &str| vec!["build".to_string(), name.to_string()];
     let bitmap = |mode: &str, name: &str| [mode, name, "8", "-"].map(String::from).to_vec();
     let [import, directory, export] = [bitmap("import", "nofile"), bitmap("import", "."), bitmap("export", "nofile")];
-    [import, directory, export, build("nofile"), build("."), numbers, folder, check("nofile"), list, find, check("."), check(""), check(&"x".repeat(300)), check(&"x".repeat(5000))]
+    let totals = ["totals", "nofile", "0", "3"].map(String::from).to_vec();
+    [totals, import, directory, export, build("nofile"), build("."), numbers, folder, check("nofile"), list, find, check("."), check(""), check(&"x".repeat(300)), check(&"x".repeat(5000))]
 }

@@ -1,11 +1,11 @@
 //! What `./loftsplice` must answer, by the model: for the cases of scripts/command-test, and the stored output of crates/command.
 use crate::samples::{bark, written};
 use crate::{ask, root};
-use document::calls::{Bound, Call, Listing, Runs, Said};
+use document::calls::{Bound, Call, Listing, Runs, Said, Total};
 use document::model::{Column, Session};
 
-const NAMES: [&str; 15] = [
-    "SHAPE", "ENDS", "REACH", "INDEX", "WINDOW", "SCAN", "ORDER", "BOUNDS", "INPUT", "ROOM", "CUT", "KIND", "SIZE", "COUNT", "RANGE",
+const NAMES: [&str; 18] = [
+    "SHAPE", "ENDS", "REACH", "INDEX", "WINDOW", "SCAN", "ORDER", "BOUNDS", "INPUT", "ROOM", "CUT", "KIND", "SIZE", "COUNT", "RANGE", "PROFILE", "FALLING", "TOTAL",
 ];
 
 /// Standard output, the last line on standard error, the exit status.
@@ -98,6 +98,7 @@ pub fn answer(words: &[String], read: &dyn Fn(&str) -> Vec<u8>) -> (Answer, Stri
         "check" => (checked(&runs, &asked), String::new()),
         "list" => (listed(&runs, &asked).unwrap_or_else(|number| refused(String::new(), number)), String::new()),
         "find" => found(&runs, &asked, read),
+        "totals" => (totalled(&runs, &asked).unwrap_or_else(|number| refused(String::new(), number)), String::new()),
         mode => panic!("'{mode}' is no mode"),
     }
 }
@@ -220,6 +221,57 @@ fn row(k: i64, index: Option<u64>, format: Format, filled: bool) -> Option<Strin
         (None, Format::Lines) => Some(format!("{k} filled")),
         (None, Format::Csv) => Some(format!("{k},filled,")),
         (None, Format::Json) => Some(format!("{{\"number\":{k},\"answer\":\"filled\"}}")),
+    }
+}
+
+/// `totals FILE [START END]..`: a row a window, and one over all; without a window those of the whole column.
+fn totalled(runs: &Runs, asked: &Asked) -> Result<Answer, u32> {
+    let edges: Vec<u64> = asked.operands[1..].iter().map(|w| w.parse().expect("a number")).collect();
+    let whole = [0, Column::new(runs).check()?];
+    let edges = if edges.is_empty() { &whole[..] } else { &edges };
+    let (from, to): (Vec<u64>, Vec<u64>) = edges.chunks(2).map(|edge| (edge[0], edge[1])).unzip();
+    let (all, windows) = match ask(runs, Call::Totals(from.clone(), to.clone(), [from.len(); 5])) {
+        Said::Totalled { all, windows } => (all, windows),
+        Said::Refused(number) => return Err(number),
+        other => unreachable!("{other} of totals"),
+    };
+    let places: Vec<(u64, u64)> = from.into_iter().zip(to).collect();
+    let out = match asked.format() {
+        Format::Lines => {
+            let rows: String = places.iter().zip(&windows).map(|((s, e), t)| format!("{s} {e} {}\n", total(t, Format::Lines))).collect();
+            format!("{rows}all {}\n", total(&all, Format::Lines))
+        }
+        Format::Csv => {
+            let rows: String = places.iter().zip(&windows).map(|((s, e), t)| format!("{s},{e},{}\n", total(t, Format::Csv))).collect();
+            format!("start,end,count,least,greatest,sum\n{rows},,{}\n", total(&all, Format::Csv))
+        }
+        Format::Json => {
+            let row = |((s, e), t): (&(u64, u64), &Total)| format!("{{\"start\":{s},\"end\":{e},{}}}\n", total(t, Format::Json));
+            let rows: Vec<String> = places.iter().zip(&windows).map(row).collect();
+            format!("{{\"windows\":\n[{}],\"all\":{{{}}}}}\n", rows.join(","), total(&all, Format::Json))
+        }
+    };
+    Ok((out, String::new(), 0))
+}
+
+/// Count, least, greatest and sum, the sum as one number.
+fn total(t: &Total, format: Format) -> String {
+    let (count, sum) = (t.count, i128::from(t.high) * 4_294_967_296 + i128::from(t.low));
+    let edge = |none: &str, value: Option<i64>| value.map_or(none.into(), |v| v.to_string());
+    let edges = |none: &str| (edge(none, t.edges.map(|e| e.0)), edge(none, t.edges.map(|e| e.1)));
+    match format {
+        Format::Lines => {
+            let (least, greatest) = edges("none");
+            format!("count {count} least {least} greatest {greatest} sum {sum}")
+        }
+        Format::Csv => {
+            let (least, greatest) = edges("");
+            format!("{count},{least},{greatest},{sum}")
+        }
+        Format::Json => {
+            let (least, greatest) = edges("null");
+            format!("\"count\":{count},\"least\":{least},\"greatest\":{greatest},\"sum\":{sum}")
+        }
     }
 }
 
