@@ -60,7 +60,7 @@ pub(crate) fn so_many(count: usize) -> Bounds {
     }
 }
 
-fn values(out: &[i64]) {
+pub(crate) fn values(out: &[i64]) {
     let mut i = 0;
     while i < out.len() {
         text(b" ");
@@ -69,7 +69,7 @@ fn values(out: &[i64]) {
     }
 }
 
-fn numbers(counts: &[u64]) {
+pub(crate) fn numbers(counts: &[u64]) {
     let mut i = 0;
     while i < counts.len() {
         text(b" ");

@@ -1,4 +1,4 @@
-//! The program examples_listings: batch listings, with the whole of both outputs, so that what a call leaves alone shows too.
+//! The program examples_listings: batch listings and totals, with the whole of the outputs, so that what a call leaves alone shows too.
 use crate::{arrays, ask, c, d, far, told};
 use document::calls::{Bound, Call, Listing, Runs, Said};
 use document::corpus;
@@ -60,4 +60,41 @@ fn line(out: &mut String, runs: &Runs, listing: Listing) {
     let values: String = values.iter().map(|v| format!(" {v}")).collect();
     let numbers: String = numbers.iter().map(|n| format!(" {n}")).collect();
     *out += &format!("{answer} |{values} |{numbers}\n");
+}
+
+/// Totals in the words of a corpus, starts and ends; three places in each output.
+pub fn totalled() -> String {
+    let mut out = String::from("== totalled\nD\n");
+    for words in ["0 5", "0,3,4 3,3,2", "1,1 4,4", "- -", "5,9 5,0", "0*4 5*4", "0*4 5*3,6", "0*4 5*3"] {
+        totals(&mut out, &d(), words);
+    }
+    out += "below zero\n";
+    totals(&mut out, &Runs::of(&[(-3, -5, 2)]), "0,1 2,2");
+    out += "longest\n";
+    for words in ["0 4294967295", "0,7 4294967295,8", "0,7 4294967295,9", "0*4 4294967295*4"] {
+        totals(&mut out, &Runs::of(&[(i64::MIN, 0, 4_294_967_295)]), words);
+    }
+    out += "damaged\n";
+    totals(&mut out, &arrays(&[10, 6], &[2, 2], &[-5, 1]), "0,0 9");
+    out
+}
+
+fn totals(out: &mut String, runs: &Runs, words: &str) {
+    let (mut counts, mut lows) = ([COUNT; 3], [COUNT; 3]);
+    let (mut leasts, mut greatests, mut highs) = ([OUT; 3], [OUT; 3], [OUT; 3]);
+    let answer = match ask(runs, corpus::call(&format!("totals {words} 3")).expect("totals")) {
+        Said::Totalled { all, windows } => {
+            for (i, window) in windows.iter().enumerate() {
+                (counts[i], highs[i], lows[i]) = (window.count, window.high, window.low);
+                (leasts[i], greatests[i]) = window.edges.unwrap_or((OUT, OUT));
+            }
+            let edges = all.edges.map_or(" of none".into(), |(least, greatest)| format!(" from {least} to {greatest}"));
+            format!("{}{edges}, sum {} {}", all.count, all.high, all.low)
+        }
+        other => told(&other),
+    };
+    let numbers = |places: [u64; 3]| places.iter().map(|n| format!(" {n}")).collect::<String>();
+    let values = |places: [i64; 3]| places.iter().map(|v| format!(" {v}")).collect::<String>();
+    let signed = [leasts, greatests, highs].map(|places| format!(" |{}", values(places))).concat();
+    *out += &format!("{answer} |{}{signed} |{}\n", numbers(counts), numbers(lows));
 }

@@ -60,7 +60,7 @@ fn stored() -> Vec<(&'static str, Vec<u8>)> {
     vec![
         ("crates/examples_columns/stdout", columns::run_only().into_bytes()),
         ("crates/examples_scans/stdout", scans.concat().into_bytes()),
-        ("crates/examples_listings/stdout", listings::listed().into_bytes()),
+        ("crates/examples_listings/stdout", [listings::listed(), listings::totalled()].concat().into_bytes()),
         ("crates/examples_records/stdout", records::stored().into_bytes()),
         ("crates/examples_built/stdout", made.concat().into_bytes()),
         ("crates/examples_profiles/stdout", profiles::profiled().into_bytes()),
