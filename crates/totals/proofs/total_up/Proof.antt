@@ -47,6 +47,9 @@ module _ (c : tie.After-measure) where
   n-long : length (start .args .numbers .now) ≡ length (start .args .from .now)
   n-long = numbers-long seq (start .args .from .now) (start .args .to .now) (start .args .numbers .now) (start .pre .1 .1 .0)
 
+  abbrev n-of : ℕ
+  n-of = length (start .args .from .now)
+
   few : length (start .args .numbers .now) ≤ 256
   few = omega (arith, n-long, start .pre .1 .0 .few)
 
@@ -136,7 +139,7 @@ has-high-requires c κs = holds-few _ _ 1048576 2097152 (omega arith) (measured 
 
 returns : tie.Need-returns
 returns c = let t = c .before in
-    (up-total (xs (measured (t .before))) _ _ (sym (high-told t) ∙ not-true (t .has-high .result) (c .if1 .taken)), (refl, (refl, (refl, (refl, refl)))))
+    (up-total (xs (measured (t .before))) (n-of (measured (t .before))) (roomsOf (start (measured (t .before)))) (sym (high-told t) ∙ not-true (t .has-high .result) (c .if1 .taken)), (refl, (refl, (refl, (refl, refl)))))
 
 is-short-requires : tie.Need-is-short-requires
 is-short-requires c κs = search needs
@@ -144,7 +147,7 @@ is-short-requires c κs = search needs
 returns-2 : tie.Need-returns-2
 returns-2 c = let s = c .before in
     let e = s .before in
-    (up-room (xs (measured (e .before .before))) _ _ (fits-high e) (sym (short-told s) ∙ c .if2 .taken), (refl, (refl, (refl, (refl, refl)))))
+    (up-room (xs (measured (e .before .before))) (n-of (measured (e .before .before))) (roomsOf (start (measured (e .before .before)))) (fits-high e) (sym (short-told s) ∙ c .if2 .taken), (refl, (refl, (refl, (refl, refl)))))
 
 array-share-prefix-least : tie.Need-array-share-prefix-least
 array-share-prefix-least c = least-there (tried c)
@@ -187,7 +190,7 @@ write-all-requires c κs = let a2 = c .before .before .before in
 total-of-requires : tie.Need-total-of-requires
 total-of-requires c κs = let w = written c in
     let m = tried (passed w) in
-    (holds-few _ _ 1048576 2097152 (omega arith) (m .measure .ensures .0) .within, ap hasHigh (sum-is m) ∙ fits-high (passed w .before .before))
+    (holds-few (m .measure .result) (xs m) 1048576 2097152 (omega arith) (m .measure .ensures .0) .within, ap hasHigh (sum-is m) ∙ fits-high (passed w .before .before))
 
 same-length : tie.Need-same-length
 same-length c = search needs
@@ -213,7 +216,7 @@ returns-3 c = let k4 = c .before in
     let w = wrote k4 in
     let n = s .pre .1 .1 .0 in
     let f = m .measure .ensures .0 .fits in (
-      up-given (xs m) _ _ (fits-high (e .before .before)) (sym (short-told (e .before)) ∙ e .if2 .left) _ (c .total-of .ensures (xs m) 1048576 (m .measure .ensures .0) (count-told m)),
+      up-given (xs m) (n-of m) (roomsOf s) (fits-high (e .before .before)) (sym (short-told (e .before)) ∙ e .if2 .left) _ (c .total-of .ensures (xs m) 1048576 (m .measure .ensures .0) (count-told m)),
       (
         counts-left (seq m) (s .args .from .now) (s .args .to .now) (s .args .numbers .now) n _ _ (w .write-all .ensures .0),
         (
