@@ -1,4 +1,4 @@
-/* Calls every function of loftsplice.h but those of profiles (profiles.c has them), with good and bad input, and compares every number of every answer.
+/* Calls every function of loftsplice.h but those of profiles and totals (profiles.c, totals.c), with good and bad input, and compares every number of every answer.
  * P1 to P12 are the examples of document 01. The last line says how many comparisons were made; the exit status is 1 if one failed. */
 #include "loftsplice.h"
 
