@@ -287,7 +287,8 @@ fn profiles_are_the_elements_and_opposite() {
             tried += 1;
         }
         for middle in 0..=count {
-            let parts = [list(1, 0, middle, false), list(1, middle, count, false)].map(|said| if let Said::Ran(records) = said { records } else { panic!("{said}") });
+            let parts = [list(1, 0, middle, false), list(1, middle, count, false)];
+            let parts = parts.map(|said| if let Said::Ran(records) = said { records } else { panic!("{said}") });
             assert_eq!(Said::Ran(parts.concat()), list(1, 0, count, false));
         }
     }

@@ -112,7 +112,8 @@ pub(super) fn records(runs: &Runs, f: &Fields) -> Said {
     assert!(answer.refusal == 0 || n == 0, "records and a refusal");
     untouched(&out[n..], RECORD);
     out.truncate(n);
-    if answer.refusal == 0 { Said::Ran(out.into_iter().map(|record| i64::try_from(record).expect("a record")).collect()) } else { Said::Refused(answer.refusal) }
+    let records = out.into_iter().map(|record| i64::try_from(record).expect("a record"));
+    if answer.refusal == 0 { Said::Ran(records.collect()) } else { Said::Refused(answer.refusal) }
 }
 
 /// The bytes that a call, which gives refusal and their number, writes.
