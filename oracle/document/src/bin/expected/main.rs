@@ -1,4 +1,4 @@
-//! What the programs must write and what the samples hold, by the model of document 01. No program's own output goes in.
+//! What the programs must write and what the samples hold, by the model of the documents. No program's own output goes in.
 //!
 //! `expected --check` compares the stored files and fails on a difference; `expected --write` writes them anew; `expected --cases DIR` writes the
 //! cases of scripts/command-test into the folder DIR.
@@ -38,13 +38,13 @@ fn check() -> ExitCode {
         let there = std::fs::read(root().join(name)).unwrap_or_default();
         if there != *data {
             wrong += 1;
-            eprintln!("expected: {name} is not what document 01 says, from line {} on", 1 + lines_alike(&there, data));
+            eprintln!("expected: {name} is not what the model says, from line {} on", 1 + lines_alike(&there, data));
         }
     }
     if wrong > 0 {
         return ExitCode::FAILURE;
     }
-    println!("expected: {} stored files are as document 01 says", files.len());
+    println!("expected: {} stored files are as the model says", files.len());
     ExitCode::SUCCESS
 }
 
