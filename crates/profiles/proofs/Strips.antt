@@ -19,8 +19,8 @@ use Rattle.recorded.specs.Records.{carriesRecord}
 use Rattle.recorded.specs.Inner.{firstAt, moreOf, floorOf}
 use Rattle.recorded.proofs.Fitting.{fit-at, fit-up, fit-key}
 use Rattle.recorded.proofs.Carried.{run-inside}
-use Rattle.recorded.proofs.Floors.{floor-first, floor-next, floors-rise, carried-on, carried-off, carried-past}
-use Rattle.profiles.specs.Inner.{Fits, RunIs, Below, Strip, nearest}
+use Rattle.recorded.proofs.Floors.{floor-first, floor-next, floor-up, floors-rise, carried-on, carried-off, carried-past}
+use Rattle.profiles.specs.Inner.{Fits, RunIs, Below, Strip, Covers, nearest}
 
 -- ---- how many numbers of a run are below a number
 
@@ -71,10 +71,6 @@ module _ (c : Column) (count : ℕ) (fits : Fits c count) (from to : ℕ) where
   abbrev edge : ℕ → ℕ
   edge r = nearest from to (floorOf c r)
 
-  pub edge-first : from ≤ to → edge 0 ≡ from
-  unfolding floorOf
-  edge-first l = omega arith
-
   pub edges-rise : (r : ℕ) → r < runs c → edge r ≤ edge (suc r)
   edges-rise r l = omega (arith, floors-rise c good count (fits .all-fit) r (suc r) (omega arith) l)
 
@@ -86,9 +82,29 @@ module _ (c : Column) (count : ℕ) (fits : Fits c count) (from to : ℕ) where
   pub run-key : (r : ℕ) → r < runs c → half64 ≤ key half64 (startOf c r)
   run-key r l = fit-key (startOf c r) (stepOf c r) (moreOf c r) (floorOf c r) count (fit-at c good count (fits .all-fit) r l)
 
-  -- past the last run
-  pub edge-last : Nowhere (carriesRecord (sequenceOf c)) (edge (runs c)) to
-  edge-last i l m = carried-past c good count (fits .all-fit) i (omega arith)
+  -- before the first run of the window, and past the last
+  module _ (begin stop : ℕ) (w : Covers (c .starts) from to begin stop) where
+    pub in-runs : (r : ℕ) → r < stop → r < runs c
+    in-runs r l = omega (arith, w .inside, good .shaped .starts-long)
+
+    low : floorOf c begin ≤ from
+    unfolding floorOf
+    low = ⊎-elim
+        (λ (u : begin < 1). let e : begin ≡ 0 = omega arith in rw e (omega arith))
+        (λ (u : 1 ≤ begin). omega (arith, floor-first c good count (fits .all-fit) begin (omega (arith, w .before u .0, good .shaped .starts-long)), w .before u .1))
+        (lt-or-ge begin 1)
+
+    pub edge-first : from ≤ to → edge begin ≡ from
+    edge-first l = omega (arith, low)
+
+    pub edge-last : Nowhere (carriesRecord (sequenceOf c)) (edge stop) to
+    edge-last i l m = ⊎-elim
+        (λ (u : stop < runs c).
+        let first : to ≤ firstAt (startOf c stop) = w .after (omega (arith, good .shaped .starts-long)) in
+        carried-off c good count (fits .all-fit) stop i u (near-from from to (floorOf c stop) i l m .1) (omega (arith, floor-up c good count (fits .all-fit) stop 0 (omega arith))) (λ j t e. absurd (omega arith)))
+        (λ (u : runs c ≤ stop). let e : stop ≡ runs c = omega (arith, w .inside, good .shaped .starts-long) in
+        carried-past c good count (fits .all-fit) i (omega (arith, ap (floorOf c) e, near-from from to (floorOf c stop) i l m .1)))
+        (lt-or-ge stop (runs c))
 
   module _ (r first step more : ℕ) (there : r < runs c) (run : RunIs c r first step more) where
     -- its last element is a record number

@@ -17,7 +17,7 @@ use Rattle.bits.proofs.Next.{Nowhere}
 use Rattle.recorded.specs.Records.{carriesRecord}
 use Rattle.recorded.specs.Inner.{floorOf}
 use Rattle.profiles.specs.Profiles.{numbersIn}
-use Rattle.profiles.specs.Inner.{Fits, Strip, Ahead, nearest, stepped, beyondOf, pastOf}
+use Rattle.profiles.specs.Inner.{Fits, Strip, Ahead, Covers, nearest, stepped, beyondOf, pastOf}
 use Rattle.profiles.proofs.Numbers.{numbers-length, numbers-parts, numbers-same, numbers-end, numbers-all, strip-numbers, strip-after, strip-empty, strip-others}
 use Rattle.profiles.proofs.Filling.{past-some, past-none, beyond-some, beyond-none}
 use Rattle.profiles.proofs.Strips.{edge-first, edges-rise, edge-last}
@@ -49,9 +49,9 @@ module _ (c : Column) (count : ℕ) (fits : Fits c count) (from to : ℕ) (order
 
   -- ---- elements
 
-  -- none below the first run's floor
-  pub elements-none : numbersIn p from (edge 0) ≡ []
-  elements-none = ap (numbersIn p from) (edge-first c count fits from to order) ∙ numbers-same p from
+  -- none below the floor of the window's first run
+  pub elements-none : (begin stop : ℕ) → Covers (c .starts) from to begin stop → numbersIn p from (edge begin) ≡ []
+  elements-none begin stop w = ap (numbersIn p from) (edge-first c count fits from to begin stop w order) ∙ numbers-same p from
 
   -- one run more
   pub elements-next : (r v s m : ℕ) → r < runs c → Strip p (edge r) (edge (suc r)) v s m → numbersIn p from (edge r) ++ stepped v s m ≡ numbersIn p from (edge (r + 1))
@@ -61,8 +61,8 @@ module _ (c : Column) (count : ℕ) (fits : Fits c count) (from to : ℕ) (order
       ∙ ap (λ x. numbersIn p from (edge x)) (sym (add-one r))
 
   -- and none past the last
-  pub elements-done : numbersIn p from (edge (runs c)) ≡ numbersIn p from to
-  elements-done = let w = near-most from to (floorOf c (runs c)) order in numbers-end p from (edge (runs c)) to (w .0) (w .1) (edge-last c count fits from to)
+  pub elements-done : (begin stop : ℕ) → Covers (c .starts) from to begin stop → numbersIn p from (edge stop) ≡ numbersIn p from to
+  elements-done begin stop w = let n = near-most from to (floorOf c stop) order in numbers-end p from (edge stop) to (n .0) (n .1) (edge-last c count fits from to begin stop w)
 
   -- never more than all
   pub elements-most : (r : ℕ) → length (numbersIn p from (edge r)) ≤ length (numbersIn p from to)
@@ -83,8 +83,8 @@ module _ (c : Column) (count : ℕ) (fits : Fits c count) (from to : ℕ) (order
   counted : (x : ℕ) → countFor p from (x - from) ≡ length (numbersIn p from x)
   counted x = sym (numbers-length p (x - from) from)
 
-  pub count-none : 0 ≡ countFor p from (edge 0 - from)
-  count-none = sym (counted (edge 0) ∙ ap length elements-none)
+  pub count-none : (begin stop : ℕ) → Covers (c .starts) from to begin stop → 0 ≡ countFor p from (edge begin - from)
+  count-none begin stop w = sym (counted (edge begin) ∙ ap length (elements-none begin stop w))
 
   pub count-next : (r : ℕ) → r < runs c → (sum v s m : ℕ) → sum ≡ countFor p from (edge r - from) → Strip p (edge r) (edge (suc r)) v s m
       → sum + m ≡ countFor p from (edge (r + 1) - from)
@@ -93,16 +93,16 @@ module _ (c : Column) (count : ℕ) (fits : Fits c count) (from to : ℕ) (order
       ∙ sym (length-append (numbersIn p from (edge r)) (stepped v s m))
       ∙ ap length (elements-next r v s m l h) ∙ sym (counted (edge (r + 1)))
 
-  pub count-done : countFor p from (edge (runs c) - from) ≡ countFor p from (to - from)
-  count-done = counted (edge (runs c)) ∙ ap length elements-done ∙ sym (counted to)
+  pub count-done : (begin stop : ℕ) → Covers (c .starts) from to begin stop → countFor p from (edge stop - from) ≡ countFor p from (to - from)
+  count-done begin stop w = counted (edge stop) ∙ ap length (elements-done begin stop w) ∙ sym (counted to)
 
   -- ---- the others
 
   abbrev others : ℕ → Bool
   others i = not (p i)
 
-  pub others-first : Others c from to 0 from
-  others-first = let e = edge-first c count fits from to order in record { since = le-refl from; until = omega (arith, e); none = λ i l m. absurd (omega (arith, e)) }
+  pub others-first : (begin stop : ℕ) → Covers (c .starts) from to begin stop → Others c from to begin from
+  others-first begin stop w = let e = edge-first c count fits from to begin stop w order in record { since = le-refl from; until = omega (arith, e); none = λ i l m. absurd (omega (arith, e)) }
 
   pub others-most : (r at : ℕ) → Others c from to r at → length (numbersIn others from at) ≤ length (numbersIn others from to)
   others-most r at o = omega (arith, ap length (numbers-parts others from at to (o .since) (there-to c from to r at order o)) ∙ length-append (numbersIn others from at) (numbersIn others at to))
@@ -163,15 +163,15 @@ module _ (c : Column) (count : ℕ) (fits : Fits c count) (from to : ℕ) (order
     )
 
   -- past the last run, to the window's end
-  module _ (at : ℕ) (o : Others c from to (runs c) at) where
+  module _ (begin stop : ℕ) (w : Covers (c .starts) from to begin stop) (at : ℕ) (o : Others c from to stop at) where
     within : at ≤ to
-    within = omega (arith, o .until, near-most from to (floorOf c (runs c)) order .1)
+    within = omega (arith, o .until, near-most from to (floorOf c stop) order .1)
 
     lacking : (i : ℕ) → at ≤ i → i < to → others i ≡ true
     lacking i a b = ⊎-elim
-        (λ (t : i < edge (runs c)). ap not (o .none i a t))
-        (λ (t : edge (runs c) ≤ i). ap not (edge-last c count fits from to i t b))
-        (lt-or-ge i (edge (runs c)))
+        (λ (t : i < edge stop). ap not (o .none i a t))
+        (λ (t : edge stop ≤ i). ap not (edge-last c count fits from to begin stop w i t b))
+        (lt-or-ge i (edge stop))
 
     pub others-end : numbersIn others from at ++ stepped at 1 (to - at) ≡ numbersIn others from to
     others-end = ap (λ x. numbersIn others from at ++ x) (sym (numbers-all others at to lacking)) ∙ sym (numbers-parts others from at to (o .since) within)

@@ -4,10 +4,12 @@ use mathlib.Core.Path.{_≡_}
 use mathlib.Core.Bool.{Bool, true, false, cond, not}
 use mathlib.Core.List.{List, [], _∷_, _++_}
 use lib.Dec.{ltb}
-use lib.ListN.{length}
-use lib.IntN.{natAbs}
+use lib.ListN.{length, getD}
+use lib.IntN.{ℤ, pos, natAbs}
 use denote.Triple.Both.{Both}
 use denote.Ref.{RefT}
+use Rattle.keys.specs.Key.{key}
+use Rattle.keys.specs.Widths.{half64}
 use Rattle.meaning.specs.declared.Refusal.the-variants.{Window, Room}
 use Rattle.meaning.specs.Refusals.{Said, Gives, Number, tried}
 use Rattle.meaning.specs.Sequence.{Sequence}
@@ -23,6 +25,22 @@ pub record Fits (c : Column) (count : ℕ) : Type 0 where
   pub is-sound : sound c ≡ true
   pub all-fit : allFit c count ≡ true
   pub few : count ≤ 4294967295
+
+-- ---- the runs of a window
+
+-- the run before r begins below a key, and r does not, if they are there and not before `low`
+pub record Split (starts : List ℤ) (low x r : ℕ) : Type 0 where
+  pub since : low ≤ r
+  pub until : r ≤ length starts
+  pub under : low < r → key half64 (getD starts (r - 1) (pos 0)) < x
+  pub over : r < length starts → x ≤ key half64 (getD starts r (pos 0))
+
+-- the window's elements are in the runs begin..stop: run `begin`, if it is not the first, begins at `from` or below, and run `stop` at `to` or above
+pub record Covers (starts : List ℤ) (from to begin stop : ℕ) : Type 0 where
+  pub order : begin ≤ stop
+  pub inside : stop ≤ length starts
+  pub before : 0 < begin → (begin < length starts) × (firstAt (getD starts begin (pos 0)) ≤ from)
+  pub after : stop < length starts → to ≤ firstAt (getD starts stop (pos 0))
 
 -- ---- the elements of a run in a window
 

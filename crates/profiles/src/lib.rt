@@ -11,12 +11,14 @@ ghost use Rattle.profiles.specs.Says.{saysField, saysListed, carrying as
 ghost use Rattle.profiles.specs.Inner.{Fits, sought, listing};
 use crate::parts::count_in;
 use crate::parts::count_sought;
+use crate::spans::span_of;
 use crate::writing::write_sought;
 use checked::Checked;
 use meaning::Refusal;
 use recorded::check_records;
 
 pub mod parts;
+pub mod spans;
 pub mod writing;
 
 // Whether a record carries the field, or a refusal.
@@ -81,7 +83,18 @@ pub fn carries(
             if count <= number {
                 return Field::Refused(Refusal::Index);
             }
-            let n = count_in(starts, ends, steps, count, number, number + 1);
+            let after = number + 1;
+            let span = span_of(starts, number, after);
+            let n = count_in(
+                starts,
+                ends,
+                steps,
+                count,
+                number,
+                after,
+                span.begin,
+                span.stop,
+            );
             if profile == 1 {
                 return told(n == 1);
             }
@@ -111,7 +124,18 @@ fn list(
     if end <= start {
         return Listed::Records(0);
     }
-    let n = count_sought(here, starts, ends, steps, count, start, end);
+    let span = span_of(starts, start, end);
+    let n = count_sought(
+        here,
+        starts,
+        ends,
+        steps,
+        count,
+        start,
+        end,
+        span.begin,
+        span.stop,
+    );
     if (out.len() as u64) < n {
         return Listed::Refused(Refusal::Room);
     }
@@ -124,6 +148,8 @@ fn list(
         count,
         start,
         end,
+        span.begin,
+        span.stop,
         &mut out[..used],
     );
     Listed::Records(n)

@@ -8,7 +8,7 @@ ghost use Rattle.bits.specs.Bitmap.{countFor};
 ghost use Rattle.recorded.specs.Records.{carriesRecord};
 ghost use Rattle.recorded.specs.Inner.{floorOf};
 ghost use Rattle.profiles.specs.Profiles.{numbersIn};
-ghost use Rattle.profiles.specs.Inner.{Fits, RunIs, Below, Strip, nearest, sought};
+ghost use Rattle.profiles.specs.Inner.{Fits, RunIs, Below, Strip, Covers, nearest, sought};
 use keys::bias;
 use keys::size16;
 
@@ -95,7 +95,7 @@ pub(crate) fn part_at(
     }
 }
 
-// How many elements lie in the window from..to.
+// How many elements lie in the window from..to, all of them in the runs begin..stop.
 pub(crate) fn count_in(
     starts: &[i64],
     ends: &[u64],
@@ -103,14 +103,16 @@ pub(crate) fn count_in(
     count: u64,
     from: u64,
     to: u64,
+    begin: usize,
+    stop: usize,
 ) -> u64
     requires { ⌜ Fits (columnNow starts ends steps) count ⌝ }
-    requires { ⌜ (from ≤ to) × (to ≤ count) ⌝ }
+    requires { ⌜ (from ≤ to) × (to ≤ count) × Covers (now starts) from to begin stop ⌝ }
     ensures { λ n. ⌜ n ≡ countFor (carriesRecord (sequence starts ends steps)) from (to - from) ⌝ }
 {
     let mut sum = 0u64;
-    let mut r = 0;
-    while r < ends.len() {
+    let mut r = begin;
+    while r < stop {
         let part = part_at(starts, ends, steps, count, r, from, to);
         sum += part.n;
         r += 1;
@@ -127,12 +129,14 @@ pub(crate) fn count_sought(
     count: u64,
     from: u64,
     to: u64,
+    begin: usize,
+    stop: usize,
 ) -> u64
     requires { ⌜ Fits (columnNow starts ends steps) count ⌝ }
-    requires { ⌜ (from ≤ to) × (to ≤ count) ⌝ }
+    requires { ⌜ (from ≤ to) × (to ≤ count) × Covers (now starts) from to begin stop ⌝ }
     ensures { λ n. ⌜ n ≡ length (numbersIn (sought here (sequence starts ends steps)) from to) ⌝ }
 {
-    let elements = count_in(starts, ends, steps, count, from, to);
+    let elements = count_in(starts, ends, steps, count, from, to, begin, stop);
     if here {
         return elements;
     }

@@ -7,7 +7,7 @@ ghost use Rattle.meaning.specs.Column.{sequenceOf};
 ghost use Rattle.meaning.specs.Contracts.{columnNow, sequence};
 ghost use Rattle.recorded.specs.Records.{carriesRecord};
 ghost use Rattle.profiles.specs.Profiles.{numbersIn};
-ghost use Rattle.profiles.specs.Inner.{Fits, Ahead, stepped, between, beyondOf, pastOf, sought};
+ghost use Rattle.profiles.specs.Inner.{Fits, Ahead, Covers, stepped, between, beyondOf, pastOf, sought};
 use crate::parts::part_at;
 
 // Numbers a step apart.
@@ -93,7 +93,7 @@ fn fill_past(out: &mut [u64], at: u64, first: u64, step: u64, n: u64)
     fill_between(&mut out[gap..], first, step, n - 1);
 }
 
-// The elements of a window.
+// The elements of a window, all of them in the runs begin..stop.
 fn write_elements(
     starts: &[i64],
     ends: &[u64],
@@ -101,16 +101,18 @@ fn write_elements(
     count: u64,
     from: u64,
     to: u64,
+    begin: usize,
+    stop: usize,
     out: &mut [u64],
 )
     requires { ⌜ Fits (columnNow starts ends steps) count ⌝ }
-    requires { ⌜ (from ≤ to) × (to ≤ count) ⌝ }
+    requires { ⌜ (from ≤ to) × (to ≤ count) × Covers (now starts) from to begin stop ⌝ }
     requires { ⌜ length (now out) ≡ length (numbersIn (carriesRecord (sequenceOf (columnNow starts ends steps))) from to) ⌝ }
     ensures { λ _. ⌜ now (out .exit) ≡ numbersIn (carriesRecord (sequence starts ends steps)) from to ⌝ }
 {
     let mut n = 0usize;
-    let mut r = 0;
-    while r < ends.len() {
+    let mut r = begin;
+    while r < stop {
         let part = part_at(starts, ends, steps, count, r, from, to);
         let next = n + part.n as usize;
         fill(&mut out[n..next], part.first, part.step);
@@ -127,17 +129,19 @@ fn write_others(
     count: u64,
     from: u64,
     to: u64,
+    begin: usize,
+    stop: usize,
     out: &mut [u64],
 )
     requires { ⌜ Fits (columnNow starts ends steps) count ⌝ }
-    requires { ⌜ (from ≤ to) × (to ≤ count) ⌝ }
+    requires { ⌜ (from ≤ to) × (to ≤ count) × Covers (now starts) from to begin stop ⌝ }
     requires { ⌜ length (now out) ≡ length (numbersIn (λ i. not (carriesRecord (sequenceOf (columnNow starts ends steps)) i)) from to) ⌝ }
     ensures { λ _. ⌜ now (out .exit) ≡ numbersIn (λ i. not (carriesRecord (sequence starts ends steps) i)) from to ⌝ }
 {
     let mut at = from;
     let mut n = 0usize;
-    let mut r = 0;
-    while r < ends.len() {
+    let mut r = begin;
+    while r < stop {
         let part = part_at(starts, ends, steps, count, r, from, to);
         let first = part.first;
         let step = part.step;
@@ -159,16 +163,18 @@ pub(crate) fn write_sought(
     count: u64,
     from: u64,
     to: u64,
+    begin: usize,
+    stop: usize,
     out: &mut [u64],
 )
     requires { ⌜ Fits (columnNow starts ends steps) count ⌝ }
-    requires { ⌜ (from ≤ to) × (to ≤ count) ⌝ }
+    requires { ⌜ (from ≤ to) × (to ≤ count) × Covers (now starts) from to begin stop ⌝ }
     requires { ⌜ length (now out) ≡ length (numbersIn (sought here (sequenceOf (columnNow starts ends steps))) from to) ⌝ }
     ensures { λ _. ⌜ now (out .exit) ≡ numbersIn (sought here (sequence starts ends steps)) from to ⌝ }
 {
     if here {
-        write_elements(starts, ends, steps, count, from, to, out);
+        write_elements(starts, ends, steps, count, from, to, begin, stop, out);
         return;
     }
-    write_others(starts, ends, steps, count, from, to, out);
+    write_others(starts, ends, steps, count, from, to, begin, stop, out);
 }

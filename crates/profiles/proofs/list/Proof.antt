@@ -32,16 +32,22 @@ returns-2 c =
     let z : listed s ≡ [] = numbers-empty (sought (s .args .here) (sequenceOf (columnNow (s .args .starts) (s .args .ends) (s .args .steps)))) (s .args .start) (s .args .end) (c .if2 .taken) in
     (says-listed (s .args .count) (s .args .end) (room s) (listed s) 0 (e .if1 .left) (omega (arith, ap length z)) (sym (ap length z)), sym (ap (λ l. l ++ drop (length l) (s .args .out .now)) z))
 
-count-sought-requires : tie.Need-count-sought-requires
-count-sought-requires c κs =
+span-of-requires : tie.Need-span-of-requires
+span-of-requires c κs =
     let e = c .before in
     let s = e .before .before .before in
-    (s .pre, (omega arith, omega arith))
+    (omega (arith, s .pre .few), omega (arith, s .pre .few))
+
+count-sought-requires : tie.Need-count-sought-requires
+count-sought-requires c κs =
+    let e = c .before .before in
+    let s = e .before .before .before in
+    (s .pre, (omega arith, omega arith, c .span-of .ensures))
 
 -- the number
 module _ (c : tie.After-count-sought) where
   abbrev some : tie.Else2
-  some = c .before
+  some = c .before .before
 
   abbrev low : tie.Else1
   low = some .before
@@ -64,7 +70,7 @@ slice-aggregate-write-sought c = simp length-take (omega arith)
 write-sought-requires : tie.Need-write-sought-requires
 write-sought-requires c κs =
     let n = c .before .before in
-    (st n .pre, ((omega arith, omega arith), simp length-take (omega (arith, n .count-sought .ensures))))
+    (st n .pre, ((omega arith, omega arith, n .before .span-of .ensures), simp length-take (omega (arith, n .count-sought .ensures))))
 
 same-length : tie.Need-same-length
 same-length c = search needs
@@ -80,4 +86,4 @@ returns-4 c =
     )
 
 pub list-spec : {M : Type 1} → statement M
-list-spec = tie.close (tie.spec returns returns-2 count-sought-requires returns-3 slice-relend-prefix-write-sought slice-aggregate-write-sought write-sought-requires same-length returns-4)
+list-spec = tie.close (tie.spec returns returns-2 span-of-requires count-sought-requires returns-3 slice-relend-prefix-write-sought slice-aggregate-write-sought write-sought-requires same-length returns-4)

@@ -1,5 +1,5 @@
 -- `writing::write_elements` meets its contract: the elements below run r's floor are written. Assumes nothing.
-use Prim.Native.Nat.{ℕ, _+_, _*_, _-_, _≤_}
+use Prim.Native.Nat.{ℕ, _+_, _*_, _-_, _≤_, _<_}
 use mathlib.Core.Path.{_≡_, refl, sym, ap, ap₂, _∙_}
 use mathlib.Core.List.{List, _++_, append-nil}
 use native.Mathlib.Omega.{arith}
@@ -13,6 +13,7 @@ use Rattle.recorded.specs.Inner.{floorOf}
 use Rattle.profiles.specs.Profiles.{numbersIn}
 use Rattle.profiles.specs.Inner.{nearest, stepped}
 use Rattle.profiles.proofs.Filling.{lent-length, lent-back}
+use Rattle.profiles.proofs.Strips.{in-runs}
 use Rattle.profiles.proofs.Walk.{elements-none, elements-next, elements-room, elements-most, elements-done}
 use borrow.Author.Needs.{needs}
 use Rattle.profiles.proofs.writing.write_elements.Statement.{statement}
@@ -23,11 +24,11 @@ abbrev below : Column → ℕ → ℕ → ℕ → List ℕ
 below c from to r = numbersIn (carriesRecord (sequenceOf c)) from (nearest from to (floorOf c r))
 
 abbrev Inv-loop : tie.InvT-loop
-Inv-loop starts ends steps count from to out₀ n₀ r₀ out n r =
-    (r ≤ length ends) × (length (below (columnOf starts ends steps) from to r) ≡ n) × (out ≡ below (columnOf starts ends steps) from to r ++ drop n out₀)
+Inv-loop starts ends steps count from to begin stop out₀ n₀ r₀ out n r =
+    (r ≤ stop) × (length (below (columnOf starts ends steps) from to r) ≡ n) × (out ≡ below (columnOf starts ends steps) from to r ++ drop n out₀)
 
 abbrev μ-loop : tie.MeasureT-loop
-μ-loop starts ends steps count from to out₀ n₀ r₀ out n r = length ends - r
+μ-loop starts ends steps count from to begin stop out₀ n₀ r₀ out n r = stop - r
 
 abbrev col : tie.Start Inv-loop μ-loop → Column
 col s = columnNow (s .args .starts) (s .args .ends) (s .args .steps)
@@ -44,6 +45,11 @@ module _ (c : tie.At-loop Inv-loop μ-loop) where
 
   long : length (c .loop .out) ≡ length (st .args .out .now)
   long = front-length front (st .args .out .now) (c .loop .n) (c .loop .inv .1) (c .loop .out) (c .loop .inv .2) within
+
+there : (c : tie.In-loop Inv-loop μ-loop) → c .before .loop .r < length (st (c .before) .args .ends .now)
+there c =
+    let s = st (c .before) in
+    in-runs (col s) (s .args .count) (s .pre .0) (s .args .from) (s .args .to) (s .args .begin) (s .args .stop) (s .pre .1 .0 .2) (c .before .loop .r) (c .loop-test .taken)
 
 -- one run more
 module _ (c : tie.After-part-at Inv-loop μ-loop) where
@@ -62,7 +68,7 @@ module _ (c : tie.After-part-at Inv-loop μ-loop) where
     at .loop .inv .1,
     st at .pre .1 .1,
     elements-room (col (st at)) (st at .args .count) (st at .pre .0) (st at .args .from) (st at .args .to) (st at .pre .1 .0 .0) (at .loop .r) (c .part-at .result .first) (c .part-at .result .step) m
-        (turn .loop-test .taken) (c .part-at .ensures),
+        (there turn) (c .part-at .ensures),
   )
 
   lent : length (take (at .loop .n + m - at .loop .n) (drop (at .loop .n) (at .loop .out))) ≡ m
@@ -70,16 +76,16 @@ module _ (c : tie.After-part-at Inv-loop μ-loop) where
 
   next : front at ++ stepped (c .part-at .result .first) (c .part-at .result .step) m ≡ below (col (st at)) (st at .args .from) (st at .args .to) (at .loop .r + 1)
   next = elements-next (col (st at)) (st at .args .count) (st at .pre .0) (st at .args .from) (st at .args .to) (st at .pre .1 .0 .0) (at .loop .r) (c .part-at .result .first) (c .part-at .result .step) m
-      (turn .loop-test .taken) (c .part-at .ensures)
+      (there turn) (c .part-at .ensures)
 
 loop-holds : tie.Need-loop-holds Inv-loop μ-loop
 loop-holds c =
     let s = c .before .before in
-    let z = elements-none (col s) (s .args .count) (s .pre .0) (s .args .from) (s .args .to) (s .pre .1 .0 .0) in
-    (omega arith, ap length z, ap (λ l. l ++ s .args .out .now) (sym z))
+    let z = elements-none (col s) (s .args .count) (s .pre .0) (s .args .from) (s .args .to) (s .pre .1 .0 .0) (s .args .begin) (s .args .stop) (s .pre .1 .0 .2) in
+    (s .pre .1 .0 .2 .order, ap length z, ap (λ l. l ++ s .args .out .now) (sym z))
 
 part-at-requires : tie.Need-part-at-requires Inv-loop μ-loop
-part-at-requires c κs = let s = st (c .before) in (s .pre .0, (c .loop-test .taken, s .pre .1 .0 .0))
+part-at-requires c κs = let s = st (c .before) in (s .pre .0, (there c, s .pre .1 .0 .0))
 
 add-next : tie.Need-add-next Inv-loop μ-loop
 add-next c = omega (arith, room c, st (at c) .good)
@@ -124,9 +130,9 @@ returns : tie.Need-returns Inv-loop μ-loop
 returns c =
     let a = c .before in
     let s = st a in
-    let e : a .loop .r ≡ length (s .args .ends .now) = omega arith in
+    let e : a .loop .r ≡ s .args .stop = omega arith in
     let all : front a ≡ numbersIn (carriesRecord (sequenceOf (col s))) (s .args .from) (s .args .to) =
-    ap (below (col s) (s .args .from) (s .args .to)) e ∙ elements-done (col s) (s .args .count) (s .pre .0) (s .args .from) (s .args .to) (s .pre .1 .0 .0) in
+    ap (below (col s) (s .args .from) (s .args .to)) e ∙ elements-done (col s) (s .args .count) (s .pre .0) (s .args .from) (s .args .to) (s .pre .1 .0 .0) (s .args .begin) (s .args .stop) (s .pre .1 .0 .2) in
     let n : a .loop .n ≡ length (s .args .out .now) = sym (a .loop .inv .1) ∙ ap length all ∙ sym (s .pre .1 .1) in
     a .loop .inv .2 ∙ ap₂ (λ x y. x ++ y) all (drop-of-length-le (s .args .out .now) {i = a .loop .n} (omega arith)) ∙ append-nil _
 

@@ -1,5 +1,5 @@
 -- `writing::write_others` meets its contract: the others are written up to the last element below run r's floor. Assumes nothing.
-use Prim.Native.Nat.{ℕ, _+_, _-_, _≤_}
+use Prim.Native.Nat.{ℕ, _+_, _-_, _≤_, _<_}
 use mathlib.Core.Path.{_≡_, refl, sym, ap, ap₂, _∙_, subst, subst⁻¹}
 use mathlib.Core.Bool.{not}
 use mathlib.Core.List.{List, _++_, append-nil}
@@ -14,6 +14,7 @@ use Rattle.profiles.specs.Profiles.{numbersIn}
 use Rattle.profiles.specs.Inner.{Ahead, stepped, beyondOf, pastOf}
 use Rattle.profiles.proofs.Numbers.{numbers-same}
 use Rattle.profiles.proofs.Filling.{lent-length, lent-back}
+use Rattle.profiles.proofs.Strips.{in-runs}
 use Rattle.profiles.proofs.Walk.{Others, there-to, others-first, others-ahead, others-next, others-joined, others-room, others-most, others-end, others-rest}
 use borrow.Author.Needs.{needs}
 use Rattle.profiles.proofs.writing.write_others.Statement.{statement}
@@ -24,12 +25,12 @@ abbrev below : Column → ℕ → ℕ → List ℕ
 below c from at = numbersIn (λ i. not (carriesRecord (sequenceOf c) i)) from at
 
 abbrev Inv-loop : tie.InvT-loop
-Inv-loop starts ends steps count from to out₀ at₀ n₀ r₀ out at n r =
-    (r ≤ length ends) × Others (columnOf starts ends steps) from to r at × (length (below (columnOf starts ends steps) from at) ≡ n)
+Inv-loop starts ends steps count from to begin stop out₀ at₀ n₀ r₀ out at n r =
+    (r ≤ stop) × Others (columnOf starts ends steps) from to r at × (length (below (columnOf starts ends steps) from at) ≡ n)
     × (out ≡ below (columnOf starts ends steps) from at ++ drop n out₀)
 
 abbrev μ-loop : tie.MeasureT-loop
-μ-loop starts ends steps count from to out₀ at₀ n₀ r₀ out at n r = length ends - r
+μ-loop starts ends steps count from to begin stop out₀ at₀ n₀ r₀ out at n r = stop - r
 
 abbrev col : tie.Start Inv-loop μ-loop → Column
 col s = columnNow (s .args .starts) (s .args .ends) (s .args .steps)
@@ -47,6 +48,11 @@ module _ (c : tie.At-loop Inv-loop μ-loop) where
   long : length (c .loop .out) ≡ length (st .args .out .now)
   long = front-length front (st .args .out .now) (c .loop .n) (c .loop .inv .2) (c .loop .out) (c .loop .inv .3) within
 
+there : (c : tie.In-loop Inv-loop μ-loop) → c .before .loop .r < length (st (c .before) .args .ends .now)
+there c =
+    let s = st (c .before) in
+    in-runs (col s) (s .args .count) (s .pre .0) (s .args .from) (s .args .to) (s .args .begin) (s .args .stop) (s .pre .1 .0 .2) (c .before .loop .r) (c .loop-test .taken)
+
 -- one run more
 module _ (c : tie.After-part-at Inv-loop μ-loop) where
   abbrev turn : tie.In-loop Inv-loop μ-loop
@@ -60,7 +66,7 @@ module _ (c : tie.After-part-at Inv-loop μ-loop) where
 
   ahead : Ahead (at .loop .at) (c .part-at .result .first) (c .part-at .result .step) (c .part-at .result .n)
   ahead = others-ahead (col (st at)) (st at .args .count) (st at .pre .0) (st at .args .from) (st at .args .to) (st at .pre .1 .0 .0) (at .loop .r) (at .loop .at) (c .part-at .result .first) (c .part-at .result .step)
-      (c .part-at .result .n) (turn .loop-test .taken) (at .loop .inv .1) (c .part-at .ensures) (st at .pre .1 .0 .1)
+      (c .part-at .result .n) (there turn) (at .loop .inv .1) (c .part-at .ensures) (st at .pre .1 .0 .1)
 
   room : at .loop .n + length past ≤ length (st at .args .out .now)
   room = omega (
@@ -68,16 +74,16 @@ module _ (c : tie.After-part-at Inv-loop μ-loop) where
     at .loop .inv .2,
     st at .pre .1 .1,
     others-room (col (st at)) (st at .args .count) (st at .pre .0) (st at .args .from) (st at .args .to) (st at .pre .1 .0 .0) (at .loop .r) (at .loop .at) (c .part-at .result .first) (c .part-at .result .step)
-        (c .part-at .result .n) (turn .loop-test .taken) (at .loop .inv .1) (c .part-at .ensures),
+        (c .part-at .result .n) (there turn) (at .loop .inv .1) (c .part-at .ensures),
   )
 
   joined : front at ++ past ≡ below (col (st at)) (st at .args .from) (beyondOf (at .loop .at) (c .part-at .result .first) (c .part-at .result .step) (c .part-at .result .n))
   joined = others-joined (col (st at)) (st at .args .count) (st at .pre .0) (st at .args .from) (st at .args .to) (st at .pre .1 .0 .0) (at .loop .r) (at .loop .at) (c .part-at .result .first) (c .part-at .result .step)
-      (c .part-at .result .n) (turn .loop-test .taken) (at .loop .inv .1) (c .part-at .ensures)
+      (c .part-at .result .n) (there turn) (at .loop .inv .1) (c .part-at .ensures)
 
   next : Others (col (st at)) (st at .args .from) (st at .args .to) (at .loop .r + 1) (beyondOf (at .loop .at) (c .part-at .result .first) (c .part-at .result .step) (c .part-at .result .n))
   next = others-next (col (st at)) (st at .args .count) (st at .pre .0) (st at .args .from) (st at .args .to) (st at .pre .1 .0 .0) (at .loop .r) (at .loop .at) (c .part-at .result .first) (c .part-at .result .step)
-      (c .part-at .result .n) (turn .loop-test .taken) (at .loop .inv .1) (c .part-at .ensures)
+      (c .part-at .result .n) (there turn) (at .loop .inv .1) (c .part-at .ensures)
 
 -- as many as were told
 module _ (c : tie.After-passed Inv-loop μ-loop) where
@@ -94,10 +100,10 @@ loop-holds : tie.Need-loop-holds Inv-loop μ-loop
 loop-holds c =
     let s = c .before .before in
     let z = numbers-same (λ i. not (carriesRecord (sequenceOf (col s)) i)) (s .args .from) in
-    (omega arith, others-first (col s) (s .args .count) (s .pre .0) (s .args .from) (s .args .to) (s .pre .1 .0 .0), ap length z, ap (λ l. l ++ s .args .out .now) (sym z))
+    (s .pre .1 .0 .2 .order, others-first (col s) (s .args .count) (s .pre .0) (s .args .from) (s .args .to) (s .pre .1 .0 .0) (s .args .begin) (s .args .stop) (s .pre .1 .0 .2), ap length z, ap (λ l. l ++ s .args .out .now) (sym z))
 
 part-at-requires : tie.Need-part-at-requires Inv-loop μ-loop
-part-at-requires c κs = let s = st (c .before) in (s .pre .0, (c .loop-test .taken, s .pre .1 .0 .0))
+part-at-requires c κs = let s = st (c .before) in (s .pre .0, (there c, s .pre .1 .0 .0))
 
 passed-requires : tie.Need-passed-requires Inv-loop μ-loop
 passed-requires c κs = ahead c
@@ -152,15 +158,15 @@ module _ (c : tie.After-loop Inv-loop μ-loop) where
   abbrev done : tie.At-loop Inv-loop μ-loop
   done = c .before
 
-  all : done .loop .r ≡ length (st done .args .ends .now)
+  all : done .loop .r ≡ st done .args .stop
   all = omega arith
 
-  there : Others (col (st done)) (st done .args .from) (st done .args .to) (length (st done .args .ends .now)) (done .loop .at)
-  there = subst (λ x. Others (col (st done)) (st done .args .from) (st done .args .to) x (done .loop .at)) all (done .loop .inv .1)
+  at-stop : Others (col (st done)) (st done .args .from) (st done .args .to) (st done .args .stop) (done .loop .at)
+  at-stop = subst (λ x. Others (col (st done)) (st done .args .from) (st done .args .to) x (done .loop .at)) all (done .loop .inv .1)
 
   rest : length (done .loop .out) ≡ done .loop .n + (st done .args .to - done .loop .at)
   rest =
-      long done ∙ st done .pre .1 .1 ∙ sym (others-rest (col (st done)) (st done .args .count) (st done .pre .0) (st done .args .from) (st done .args .to) (st done .pre .1 .0 .0) (done .loop .at) there)
+      long done ∙ st done .pre .1 .1 ∙ sym (others-rest (col (st done)) (st done .args .count) (st done .pre .0) (st done .args .from) (st done .args .to) (st done .pre .1 .0 .0) (st done .args .begin) (st done .args .stop) (st done .pre .1 .0 .2) (done .loop .at) at-stop)
       ∙ ap (λ x. x + (st done .args .to - done .loop .at)) (done .loop .inv .2)
 
   short : length (take (length (done .loop .out) - done .loop .n) (drop (done .loop .n) (done .loop .out))) ≡ st done .args .to - done .loop .at
@@ -179,10 +185,10 @@ part-fill-end : tie.Need-part-fill-end Inv-loop μ-loop
 part-fill-end c = search needs
 
 fill-requires : tie.Need-fill-requires Inv-loop μ-loop
-fill-requires c κs = let l = c .before in omega (arith, short l, there l .since, st (done l) .pre .1 .0 .1, st (done l) .pre .0 .few, others-within l)
+fill-requires c κs = let l = c .before in omega (arith, short l, at-stop l .since, st (done l) .pre .1 .0 .1, st (done l) .pre .0 .few, others-within l)
   where
     others-within : (l : tie.After-loop Inv-loop μ-loop) → done l .loop .at ≤ st (done l) .args .to
-    others-within l = there-to (col (st (done l))) (st (done l) .args .from) (st (done l) .args .to) (length (st (done l) .args .ends .now)) (done l .loop .at) (st (done l) .pre .1 .0 .0) (there l)
+    others-within l = there-to (col (st (done l))) (st (done l) .args .from) (st (done l) .args .to) (st (done l) .args .stop) (done l .loop .at) (st (done l) .pre .1 .0 .0) (at-stop l)
 
 -- all are written
 module _ (c : tie.After-fill Inv-loop μ-loop) where
@@ -196,7 +202,7 @@ module _ (c : tie.After-fill Inv-loop μ-loop) where
       → putMid (d .loop .n) (length (d .loop .out) - d .loop .n) (d .loop .out) w ≡ below (col (st d)) (st d .args .from) (st d .args .to)
   final w h =
       lent-back (front d) (st d .args .out .now) (d .loop .n) (d .loop .inv .2) (d .loop .out) (d .loop .inv .3) (length (d .loop .out)) (st d .args .to - d .loop .at) (rest left) (omega (arith, long d)) w (stepped (d .loop .at) 1) h
-      ∙ ap₂ (λ x y. x ++ y) (others-end (col (st d)) (st d .args .count) (st d .pre .0) (st d .args .from) (st d .args .to) (st d .pre .1 .0 .0) (d .loop .at) (there left)) (drop-of-length-le (st d .args .out .now) {i = length (d .loop .out)} (omega (arith, long d)))
+      ∙ ap₂ (λ x y. x ++ y) (others-end (col (st d)) (st d .args .count) (st d .pre .0) (st d .args .from) (st d .args .to) (st d .pre .1 .0 .0) (st d .args .begin) (st d .args .stop) (st d .pre .1 .0 .2) (d .loop .at) (at-stop left)) (drop-of-length-le (st d .args .out .now) {i = length (d .loop .out)} (omega (arith, long d)))
       ∙ append-nil _
 
 same-length : tie.Need-same-length Inv-loop μ-loop
