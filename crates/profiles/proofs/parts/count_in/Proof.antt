@@ -31,7 +31,7 @@ col s = columnNow (s .args .starts) (s .args .ends) (s .args .steps)
 there : (c : tie.In-loop Inv-loop μ-loop) → c .before .loop .r < length (st (c .before) .args .ends .now)
 there c =
     let s = st (c .before) in
-    in-runs (col s) (s .args .count) (s .pre .0) (s .args .from) (s .args .to) (s .args .begin) (s .args .stop) (s .pre .1 .2) (c .before .loop .r) (c .loop-test .taken)
+    in-runs (col s) (s .args .count) (s .pre .0) (s .args .from) (s .args .to) (s .args .begin) (s .args .stop) (s .pre .1 .2) (c .before .loop .r) (omega (arith, c .loop-test .taken))
 
 loop-holds : tie.Need-loop-holds Inv-loop μ-loop
 loop-holds c = let s = c .before in (s .pre .1 .2 .order, count-none (col s) (s .args .count) (s .pre .0) (s .args .from) (s .args .to) (s .pre .1 .0) (s .args .begin) (s .args .stop) (s .pre .1 .2))
