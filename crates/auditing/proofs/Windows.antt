@@ -4,8 +4,8 @@ use mathlib.Core.Path.{_≡_, refl, sym, ap, _∙_}
 use mathlib.Core.Bool.{Bool, false}
 use mathlib.Core.List.{List, [], _∷_, _++_, append-assoc, append-nil}
 use native.Mathlib.Omega.{arith}
-use borrow.Author.Tests.{le-ltb, ltb-false, eqb-true, eqb-false, eq-eqb, ne-eqb}
-use lib.Dec.{eqb, ltb}
+use borrow.Author.Tests.{le-ltb, ltb-false}
+use lib.Dec.{ltb}
 use lib.ListN.{length, length-append}
 use Rattle.ranges.proofs.Bools.{either}
 use Rattle.meaning.specs.declared.Refusal.the-variants.{Window, Room}
@@ -15,7 +15,7 @@ use Rattle.meaning.proofs.Judging.{Clear, gives-clear, refused-before}
 use Rattle.meaning.proofs.Tried.{clear-front, clear-gives}
 use Rattle.profiles.specs.Profiles.{profileTests, listTests, listedOf, numbersFor, numbersIn}
 use Rattle.profiles.proofs.Numbers.{numbers-parts, numbers-same}
-use Rattle.auditing.specs.declared.tally.Asked.{Asked}
+use Rattle.reporting.specs.declared.asked.Asked.{Asked}
 use Rattle.auditing.specs.Audit.{windowTests, windowOf, Numbers, numbersOf, countsOf, Counted}
 
 pub given-same : {A : Type 0} {a b : A} → Gives a ≡ Gives b → a ≡ b
@@ -45,12 +45,6 @@ module _ (p : ℕ → Bool) where
   -- up to the window's end, or past it where the window is empty
   pub numbers-whole : (a m b : ℕ) → m - a ≤ b - a → b ≤ m → length (numbersIn p a m) ≡ length (numbersIn p a b)
   numbers-whole a m b l u = let e : m - a ≡ b - a = omega arith in ap (λ n. length (numbersFor p a n)) e
-
--- two numbers that add up to a third
-pub add-test : (c f s : ℕ) → c ≤ s → eqb (s - c) f ≡ eqb (c + f) s
-add-test c f s l = either (eqb (s - c) f)
-    (λ t. t ∙ sym (eq-eqb (c + f) s (omega (arith, eqb-true (s - c) f t))))
-    (λ t. t ∙ sym (ne-eqb (c + f) s (λ e. eqb-false (s - c) f t (omega arith))))
 
 -- ---- which windows are refused
 

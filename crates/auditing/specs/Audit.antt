@@ -9,7 +9,7 @@ use Rattle.meaning.specs.Refusals.{Word, fine, Said, Gives, Number, numberOf, T
 use Rattle.meaning.specs.Sequence.{Sequence, Source}
 use Rattle.meaning.specs.Parts.{each}
 use Rattle.profiles.specs.Profiles.{profileTests, carryingIn, filledIn}
-use Rattle.auditing.specs.declared.tally.Asked.{Asked}
+use Rattle.reporting.specs.declared.asked.Asked.{Asked}
 use Rattle.auditing.specs.declared.tally.Counts.{Counts}
 use Rattle.auditing.specs.declared.tally.Counts.the-variants.{Both, Refused}
 use Rattle.auditing.specs.declared.logs.Row.{Row}

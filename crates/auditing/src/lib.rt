@@ -3,9 +3,12 @@ ghost use Rattle.meaning.specs.Column.{sourceOf};
 ghost use Rattle.meaning.specs.Contracts.{columnNow};
 ghost use Rattle.auditing.specs.Audit.{Counted};
 use crate::logs::ranges;
-use crate::tally::Asked;
+use crate::picture::picture;
 use crate::tally::Counts;
 use crate::tally::tally;
+use reporting::asked::Asked;
+use reporting::page;
+use reporting::rows;
 use telling::printing;
 use words::arguments::natural;
 use words::arguments::signed;
@@ -18,11 +21,8 @@ use words::places::HTML;
 use words::places::PROFILE;
 use words::places::RECORDS;
 
-mod held;
 mod logs;
-mod page;
 mod picture;
-mod rows;
 pub mod tally;
 
 // The profile that argument i has: 1 where none is given; 0, which is none, for any number but 1 and 2.
@@ -76,20 +76,12 @@ fn put_page(
     let mut word = io::buffer();
     let n = os::arg(file, &mut word);
     let mut buf = io::large_buffer();
-    let a = page::front(
-        starts,
-        ends,
-        steps,
-        asked,
-        &word[..n],
-        carried,
-        filled,
-        &mut buf,
-        0,
-    );
-    let b = ranges(starts, ends, steps, asked, HTML, &mut buf, a);
-    let c = page::back(&mut buf, b);
-    printing::written(&buf, c);
+    let a = page::front(asked, &word[..n], carried, filled, &mut buf, 0);
+    let b = picture(starts, ends, steps, asked, &mut buf, a);
+    let c = page::middle(filled, &mut buf, b);
+    let d = ranges(starts, ends, steps, asked, HTML, &mut buf, c);
+    let e = page::back(&mut buf, d);
+    printing::written(&buf, e);
 }
 
 fn put_rows(

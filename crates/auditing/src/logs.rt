@@ -8,11 +8,11 @@ ghost use Rattle.meaning.specs.Column.{sourceOf, sequenceOf};
 ghost use Rattle.meaning.specs.Contracts.{columnNow, sequence};
 ghost use Rattle.profiles.specs.Profiles.{filledIn};
 ghost use Rattle.auditing.specs.Audit.{windowOf, logsOf, Range};
-use crate::rows;
-use crate::tally::Asked;
 use crate::tally::piece_end;
 use profiles::Listed;
 use profiles::filled;
+use reporting::asked::Asked;
+use reporting::rows;
 
 // The range that may still grow, of n logs; how many logs were written before it; and the place in the buffer.
 pub struct Row {

@@ -1,7 +1,6 @@
 // How many records of a window carry the field, and how many are filled: piece by piece, so that a window may have any length.
 ghost use mathlib.Core.Path.{_≡_};
-ghost use Prim.Native.Nat.{_+_, _-_, _≤_, _<_};
-ghost use lib.Dec.{eqb};
+ghost use Prim.Native.Nat.{_-_, _≤_, _<_};
 ghost use lib.ListN.{length};
 ghost use Rattle.meaning.specs.Refusals.{Gives, fine};
 ghost use Rattle.meaning.specs.Column.{sourceOf};
@@ -14,14 +13,7 @@ use meaning::Refusal;
 use profiles::Listed;
 use profiles::carrying;
 use profiles::filled;
-
-// What is asked: by which profile, of how many records, in which window.
-pub struct Asked {
-    pub profile: u8,
-    pub count: u64,
-    pub start: u64,
-    pub end: u64,
-}
+use reporting::asked::Asked;
 
 pub enum Counts {
     // carried, filled
@@ -128,21 +120,4 @@ pub fn tally(starts: &[i64], ends: &[u64], steps: &[i16], asked: Asked) -> Count
         Checked::Refused(why) => Counts::Refused(why),
         Checked::Fine => sums(starts, ends, steps, asked),
     }
-}
-
-// How many records a window has.
-pub fn size(start: u64, end: u64) -> u64
-    ensures { λ r. ⌜ r ≡ end - start ⌝ }
-{
-    if start < end { end - start } else { 0 }
-}
-
-// Whether the two numbers add up to the window: no sum that wraps may hide a difference.
-pub fn adds_up(carried: u64, filled: u64, size: u64) -> bool
-    ensures { λ r. ⌜ r ≡ eqb (carried + filled) size ⌝ }
-{
-    if size < carried {
-        return false;
-    }
-    size - carried == filled
 }

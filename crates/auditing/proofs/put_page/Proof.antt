@@ -24,9 +24,17 @@ slice-aggregate-front c = search needs
 front-requires : tie.Need-front-requires
 front-requires c κs = search needs
 
+picture-requires : tie.Need-picture-requires
+picture-requires c κs = search needs
+
+middle-requires : tie.Need-middle-requires
+middle-requires c κs = search needs
+
 ranges-requires : tie.Need-ranges-requires
 ranges-requires c κs =
-    let at-word3 = c .before .before .before in
+    let at-picture = c .before .before .before in
+    let at-front = at-picture .before .before in
+    let at-word3 = at-front .before .before in
     let at-arg = at-word3 .before .before .before in
     let at-buffer = at-arg .before .before in
     at-buffer .before .before .pre .is-open
@@ -51,6 +59,8 @@ put-page-spec =
     array-share-prefix-word
     slice-aggregate-front
     front-requires
+    picture-requires
+    middle-requires
     ranges-requires
     back-requires
     written-requires

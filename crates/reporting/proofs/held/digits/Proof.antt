@@ -1,8 +1,8 @@
--- `auditing::held::digits` ends, and reads what is there. Assumes nothing.
+-- `reporting::held::digits` ends, and reads what is there. Assumes nothing.
 use Prim.Native.Nat.{_-_, _≤_}
 use borrow.Author.Needs.{needs}
-use Rattle.auditing.proofs.held.digits.Statement.{statement}
-use Rattle.auditing.proofs.held.digits.Tie as tie
+use Rattle.reporting.proofs.held.digits.Statement.{statement}
+use Rattle.reporting.proofs.held.digits.Tie as tie
 
 abbrev Inv-loop : tie.InvT-loop
 Inv-loop digits n apart buf₀ at to₀ i₀ buf to i = i ≤ 20

@@ -1,10 +1,11 @@
 // What an audit writes in each format: its numbers, and a row a range of filled logs.
-use crate::held::grouped;
+use crate::asked::Asked;
+use crate::asked::adds_up;
+use crate::asked::size;
+use crate::held::named;
 use crate::held::number;
 use crate::held::text;
-use crate::tally::Asked;
-use crate::tally::adds_up;
-use crate::tally::size;
+use crate::held::told;
 use words::places::CSV;
 use words::places::HTML;
 use words::places::JSON;
@@ -29,15 +30,12 @@ fn said(
 
 // A row of a page: 13 to 19, and how many these are.
 fn item(first: u64, last: u64, n: u64, buf: &mut [u8; 65536], at: usize) -> usize {
-    let open = text(b"<li>", buf, at);
-    let from = grouped(first, buf, open);
+    let from = told(b"<li>", first, buf, at);
     if n == 1 {
         return text(b"</li>\n", buf, from);
     }
-    let dash = text(b"&ndash;", buf, from);
-    let to = grouped(last, buf, dash);
-    let small = text(b" <small>", buf, to);
-    let many = grouped(n, buf, small);
+    let to = told(b"&ndash;", last, buf, from);
+    let many = told(b" <small>", n, buf, to);
     text(b"</small></li>\n", buf, many)
 }
 
@@ -47,38 +45,26 @@ fn line(first: u64, last: u64, n: u64, buf: &mut [u8; 65536], at: usize) -> usiz
     if n == 1 {
         return text(b" filled\n", buf, from);
     }
-    let dots = text(b"..", buf, from);
-    let to = number(last, buf, dots);
+    let to = named(b"..", last, buf, from);
     text(b" filled\n", buf, to)
 }
 
-// A row of a table or of a list of pairs: what stands before the first number, between the numbers and after them.
-fn cells(
-    form: usize,
-    lead: bool,
-    first: u64,
-    last: u64,
-    n: u64,
-    buf: &mut [u8; 65536],
-    at: usize,
-) -> usize {
-    if form == CSV {
-        let named = text(b"filled range,", buf, at);
-        let from = number(first, buf, named);
-        let next = text(b",", buf, from);
-        let to = number(last, buf, next);
-        let then = text(b",", buf, to);
-        let many = number(n, buf, then);
-        return text(b"\n", buf, many);
-    }
-    let open = if lead {
-        text(b"[", buf, at)
+// A row of a table: 'filled range,13,19,7'.
+fn cells(first: u64, last: u64, n: u64, buf: &mut [u8; 65536], at: usize) -> usize {
+    let from = named(b"filled range,", first, buf, at);
+    let to = named(b",", last, buf, from);
+    let many = named(b",", n, buf, to);
+    text(b"\n", buf, many)
+}
+
+// A pair of a list of pairs: '[13,19]', after a comma but where it leads.
+fn pair(lead: bool, first: u64, last: u64, buf: &mut [u8; 65536], at: usize) -> usize {
+    let from = if lead {
+        named(b"[", first, buf, at)
     } else {
-        text(b",[", buf, at)
+        named(b",[", first, buf, at)
     };
-    let from = number(first, buf, open);
-    let next = text(b",", buf, from);
-    let to = number(last, buf, next);
+    let to = named(b",", last, buf, from);
     text(b"]\n", buf, to)
 }
 
@@ -96,15 +82,37 @@ pub fn range(
         return item(first, last, n, buf, at);
     }
     if form == CSV {
-        return cells(form, lead, first, last, n, buf, at);
+        return cells(first, last, n, buf, at);
     }
     if form == JSON {
-        return cells(form, lead, first, last, n, buf, at);
+        return pair(lead, first, last, buf, at);
     }
     line(first, last, n, buf, at)
 }
 
-// What was asked: profile, records, window. A row of a table has the window's first and last record, where there is one.
+// The window of a table: its first and last record, where there is one, and how many there are.
+fn window_cells(start: u64, end: u64, buf: &mut [u8; 65536], at: usize) -> usize {
+    if end <= start {
+        return text(b",,0", buf, at);
+    }
+    let a = number(start, buf, at);
+    let b = named(b",", end - 1, buf, a);
+    named(b",", end - start, buf, b)
+}
+
+fn window(form: usize, start: u64, end: u64, buf: &mut [u8; 65536], at: usize) -> usize {
+    let a = said(form, b"\nwindow ", b"\nwindow,", b",\"start\":", buf, at);
+    if form == CSV {
+        return window_cells(start, end, buf, a);
+    }
+    let b = number(start, buf, a);
+    if form == JSON {
+        return named(b",\"end\":", end, buf, b);
+    }
+    named(b" ", end, buf, b)
+}
+
+// What was asked: profile, records, window.
 fn question(form: usize, asked: Asked, buf: &mut [u8; 65536], at: usize) -> usize {
     let a = said(
         form,
@@ -124,48 +132,36 @@ fn question(form: usize, asked: Asked, buf: &mut [u8; 65536], at: usize) -> usiz
         b,
     );
     let d = number(asked.count, buf, c);
-    let e = said(form, b"\nwindow ", b"\nwindow,", b",\"start\":", buf, d);
-    let start = asked.start;
-    let end = asked.end;
-    if form == CSV && end <= start {
-        return text(b",,0", buf, e);
-    }
-    let f = number(start, buf, e);
-    let g = said(form, b" ", b",", b",\"end\":", buf, f);
-    if form != CSV {
-        return number(end, buf, g);
-    }
-    let h = if start < end {
-        number(end - 1, buf, g)
-    } else {
-        g
-    };
-    let i = text(b",", buf, h);
-    number(size(start, end), buf, i)
+    window(form, asked.start, asked.end, buf, d)
 }
 
 // Whether the numbers add up, and where the proof stands.
 fn verdict(form: usize, sure: bool, buf: &mut [u8; 65536], at: usize) -> usize {
-    let a = said(
-        form,
-        b"\nadds up ",
-        b"\nadds up,,,",
-        b",\"adds_up\":",
-        buf,
-        at,
-    );
-    let b = if sure {
-        said(form, b"yes", b"yes", b"true", buf, a)
+    let a = if sure {
+        said(
+            form,
+            b"\nadds up yes\nproof ",
+            b"\nadds up,,,yes\nproof,,,",
+            b",\"adds_up\":true,\"proof\":\"",
+            buf,
+            at,
+        )
     } else {
-        said(form, b"no", b"no", b"false", buf, a)
+        said(
+            form,
+            b"\nadds up no\nproof ",
+            b"\nadds up,,,no\nproof,,,",
+            b",\"adds_up\":false,\"proof\":\"",
+            buf,
+            at,
+        )
     };
-    let c = said(form, b"\nproof ", b"\nproof,,,", b",\"proof\":\"", buf, b);
-    let d = text(
+    let b = text(
         b"docs/AUDIT.md: listed-exactly-if in crates/profile_theorems/proofs/Lists.antt",
         buf,
-        c,
+        a,
     );
-    said(form, b"\n", b"\n", b"\",\"filled_ranges\":[\n", buf, d)
+    said(form, b"\n", b"\n", b"\",\"filled_ranges\":[\n", buf, b)
 }
 
 // The numbers, before the rows.

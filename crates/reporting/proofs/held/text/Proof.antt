@@ -1,9 +1,9 @@
--- `auditing::held::text` ends, and reads what is there. Assumes nothing.
+-- `reporting::held::text` ends, and reads what is there. Assumes nothing.
 use Prim.Native.Nat.{_-_, _≤_}
 use lib.ListN.{length}
 use borrow.Author.Needs.{needs}
-use Rattle.auditing.proofs.held.text.Statement.{statement}
-use Rattle.auditing.proofs.held.text.Tie as tie
+use Rattle.reporting.proofs.held.text.Statement.{statement}
+use Rattle.reporting.proofs.held.text.Tie as tie
 
 abbrev Inv-loop : tie.InvT-loop
 Inv-loop s buf₀ at to₀ i₀ buf to i = i ≤ length s

@@ -1,11 +1,11 @@
--- `auditing::tally::adds_up` meets its contract. Assumes nothing.
+-- `reporting::asked::adds_up` meets its contract. Assumes nothing.
 use Prim.Native.Nat.{_+_}
 use mathlib.Core.Path.{sym}
 use native.Mathlib.Omega.{arith}
 use borrow.Author.Tests.{ne-eqb}
-use Rattle.auditing.proofs.Windows.{add-test}
-use Rattle.auditing.proofs.tally.adds_up.Statement.{statement}
-use Rattle.auditing.proofs.tally.adds_up.Tie as tie
+use Rattle.reporting.proofs.Adding.{add-test}
+use Rattle.reporting.proofs.asked.adds_up.Statement.{statement}
+use Rattle.reporting.proofs.asked.adds_up.Tie as tie
 
 returns : tie.Need-returns
 returns c = let a = c .before .args in sym (ne-eqb (a .carried + a .filled) (a .size) (λ e. omega (arith, c .if1 .taken, e)))

@@ -69,6 +69,17 @@ pub fn grouped(n: u64, buf: &mut [u8; 65536], at: usize) -> usize {
     digits(&decimal, count, true, buf, at)
 }
 
+// A text, and a number after it.
+pub fn named(lead: &[u8], n: u64, buf: &mut [u8; 65536], at: usize) -> usize {
+    let to = text(lead, buf, at);
+    number(n, buf, to)
+}
+
+pub fn told(lead: &[u8], n: u64, buf: &mut [u8; 65536], at: usize) -> usize {
+    let to = text(lead, buf, at);
+    grouped(n, buf, to)
+}
+
 // A byte of a text that is no markup. What no page may hold is shown as what can't be shown.
 fn escaped_byte(value: u8, buf: &mut [u8; 65536], at: usize) -> usize {
     match value {
