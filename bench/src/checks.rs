@@ -119,7 +119,7 @@ pub fn measure(clock: &mut Clock) {
     check(clock, 4096, Edge::Nowhere, "", most);
     check(clock, 4096, Edge::First, ", the first at an edge of i64", most);
     check(clock, 4096, Edge::Last, ", the last at an edge", most);
-    check(clock, 4096, Edge::All, ", all at an edge", most);
+    check(clock, 4096, Edge::All, ", all at an edge", Some(1.2));
     for (runs, target) in [(16, None), (256, None), (4096, Some(0.5))] {
         rise(clock, rising(runs, runs * 64), format!("{runs} runs"), target);
     }
