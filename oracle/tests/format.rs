@@ -21,7 +21,7 @@ fn examples_of_the_documents() {
     let cases = corpus::cases(EXAMPLES).expect("the examples");
     assert_eq!(cases.len(), 80);
     let lines: usize = cases.iter().map(|c| c.lines.len()).sum();
-    assert_eq!(lines, 438);
+    assert_eq!(lines, 441);
     assert_eq!(differences(EXAMPLES), Vec::<String>::new());
 }
 
