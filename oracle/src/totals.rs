@@ -44,7 +44,10 @@ fn extremes(tally: &mut Tally) {
                 let runs = Runs::of(&[(start, step, length)]);
                 let column = model::Column::new(&runs);
                 let mut bench = Bench::new(&column, &[]);
-                let ends = [(0, length), (1, length), (0, length - 1), (length - 1, length), (length / 2, length), (length, length), (length, 0), (u64::MAX, length)];
+                let ends = [
+                    (0, length), (1, length), (0, length - 1), (length - 1, length),
+                    (length / 2, length), (length, length), (length, 0), (u64::MAX, length),
+                ];
                 ends.iter().for_each(|&one| ask(&mut bench, &[one], tally));
                 ask(&mut bench, &ends, tally);
                 for times in [1, 2, 3, 256, 257] {

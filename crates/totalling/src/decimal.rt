@@ -6,7 +6,8 @@ ghost use lib.IntN.{subℕ};
 ghost use Rattle.totals.specs.Totals.{worth};
 ghost use Rattle.totalling.specs.Decimal.{digitsOf, textOf};
 
-// Puts the digits of high · 2^32 + low at the end of out, and answers where they begin; what is before them stays. One digit a turn: what is left of the high in tens is carried down.
+// Puts the digits of high · 2^32 + low at the end of out, and answers where they begin; what is before them stays. One digit a turn:
+// what is left of the high in tens is carried down.
 fn spell(high: u64, low: u64, out: &mut [u8]) -> usize
     requires { ⌜ length (now out) ≡ 30 ⌝ }
     requires { ⌜ (low < 4294967296) × (high * 4294967296 + low < 100000000000000000000000000000) ⌝ }

@@ -51,8 +51,8 @@ fn window(column: &Column, start: u64, end: u64) -> Exact {
     exact
 }
 
-/// "for up to 256 windows of one volume column .., per window and over all". Refused 1, 2, 3, then 8 and 5 as the batch listing is, "18 TOTAL where the sum over
-/// all windows has no such high, after 5 and before 10".
+/// "for up to 256 windows of one volume column .., per window and over all". Refused 1, 2, 3, then 8 and 5 as the batch listing is, "18 TOTAL where the sum
+/// over all windows has no such high, after 5 and before 10".
 pub fn totals(column: &Column, from: &[u64], to: &[u64], places: [usize; 5]) -> Outcome<Said> {
     let length = column.check?;
     refuse_if(from.len() > 256 || from.len() != to.len(), BOUNDS)?;

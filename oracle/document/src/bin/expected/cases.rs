@@ -238,5 +238,6 @@ fn without_file() -> [Vec<String>; 15] {
     let bitmap = |mode: &str, name: &str| [mode, name, "8", "-"].map(String::from).to_vec();
     let [import, directory, export] = [bitmap("import", "nofile"), bitmap("import", "."), bitmap("export", "nofile")];
     let totals = ["totals", "nofile", "0", "3"].map(String::from).to_vec();
-    [totals, import, directory, export, build("nofile"), build("."), numbers, folder, check("nofile"), list, find, check("."), check(""), check(&"x".repeat(300)), check(&"x".repeat(5000))]
+    let [long, longer] = [300, 5000].map(|n| check(&"x".repeat(n)));
+    [totals, import, directory, export, build("nofile"), build("."), numbers, folder, check("nofile"), list, find, check("."), check(""), long, longer]
 }

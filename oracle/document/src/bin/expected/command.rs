@@ -5,7 +5,8 @@ use document::calls::{Bound, Call, Listing, Runs, Said, Total};
 use document::model::{Column, Session};
 
 const NAMES: [&str; 18] = [
-    "SHAPE", "ENDS", "REACH", "INDEX", "WINDOW", "SCAN", "ORDER", "BOUNDS", "INPUT", "ROOM", "CUT", "KIND", "SIZE", "COUNT", "RANGE", "PROFILE", "FALLING", "TOTAL",
+    "SHAPE", "ENDS", "REACH", "INDEX", "WINDOW", "SCAN", "ORDER", "BOUNDS", "INPUT", "ROOM", "CUT",
+    "KIND", "SIZE", "COUNT", "RANGE", "PROFILE", "FALLING", "TOTAL",
 ];
 
 /// Standard output, the last line on standard error, the exit status.
