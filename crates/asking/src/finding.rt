@@ -19,7 +19,7 @@ pub const FILLED_SUM: usize = 1;
 
 pub const ROWS: usize = 2;
 
-#[derive(Drop)]
+#[derive(Clone, Copy)]
 enum Found {
     At(u64),
     // its index is not asked for

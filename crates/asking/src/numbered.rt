@@ -76,7 +76,7 @@ fn last(
 }
 
 // What a chunk of the file came to.
-#[derive(Drop)]
+#[derive(Clone, Copy)]
 enum Chunk {
     More,
     End,

@@ -1,4 +1,6 @@
 // audit FILE COUNT [START END]: which logs of a window are filled, how many, how many carry the field, and whether that is all of the window.
+#![tactic(auto)]
+
 ghost use Rattle.meaning.specs.Column.{source_of};
 ghost use Rattle.meaning.specs.Naming.{column_now};
 ghost use Rattle.auditing.specs.Audit.{Counted};

@@ -12,7 +12,7 @@ use reporting::asked::Asked;
 use reporting::rows;
 
 // The range that may still grow, of n logs; how many logs were written before it; and the place in the buffer.
-#[derive(Drop)]
+#[derive(Clone, Copy)]
 pub struct Row {
     pub done: u64,
     pub first: u64,

@@ -12,7 +12,7 @@ use meaning::Refusal;
 use profiles::{Listed, carrying, filled};
 use reporting::asked::Asked;
 
-#[derive(Drop)]
+#[derive(Clone, Copy)]
 pub enum Counts {
     // carried, filled
     Both(u64, u64),

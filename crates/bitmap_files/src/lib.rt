@@ -1,5 +1,7 @@
 // import BITMAP COUNT OUT and export FILE COUNT OUT: the column of a bitmap as a stored record, and the bitmap of a column. Both go to standard
 // output, whole or not at all; the wrapper makes the file OUT of it.
+#![tactic(auto)]
+
 ghost use Rattle.std.specs.Prelude.{◌≡◌};
 ghost use Rattle.meaning.specs.Column.{source_of};
 ghost use Rattle.meaning.specs.Naming.{column_now};

@@ -1,4 +1,6 @@
 // Presence bitmaps, read: whether a record is present, how many are, where the next one is. Every call takes any bytes and any numbers.
+#![tactic(auto)]
+
 ghost use Rattle.std.specs.Prelude.{◌≡◌, not, ◌+◌, ◌*◌, ◌<◌, ◌≤◌, min, length, get_or};
 ghost use Rattle.ranges.specs.Ranges.{first_from};
 ghost use Rattle.bits.specs.Bitmap.{present, count_for};

@@ -1,4 +1,6 @@
 // Runs from a plain list, by the rule of specs/Rule.antt. The runs are counted, and the room is tried, before anything is written.
+#![tactic(auto)]
+
 ghost use Rattle.std.specs.Prelude.{◌≡◌, ◌+◌, ◌<◌, ◌≤◌, min, true, length, ◌-ℤ◌};
 ghost use Rattle.std.proofs.lemmas.List.Edits.{sets};
 ghost use Rattle.keys.specs.Key.{unkey};
@@ -14,14 +16,14 @@ use keys::bias;
 use meaning::Refusal;
 
 // The run count, or a refusal.
-#[derive(Drop)]
+#[derive(Clone, Copy)]
 pub enum Built {
     Runs(usize),
     Refused(Refusal),
 }
 
 // Where a run ends, and its step.
-#[derive(Drop)]
+#[derive(Clone, Copy)]
 struct Stretch {
     end: usize,
     step: i16,

@@ -47,7 +47,7 @@ fn last(line: &[u8; 64], held: usize, values: &mut [i64], count: usize) -> usize
 }
 
 // What a chunk of the file came to.
-#[derive(Drop)]
+#[derive(Clone, Copy)]
 struct Chunk {
     count: usize,
     more: bool,

@@ -1,4 +1,6 @@
 // build FILE: the numbers of a file, one a line, as a stored record on standard output.
+#![tactic(auto)]
+
 pub mod gathering;
 pub mod stored;
 

@@ -1,4 +1,6 @@
 // The C interface: presence bitmaps.
+#![tactic(auto)]
+
 ghost use Rattle.std.specs.Prelude.{◌≡◌};
 ghost use Rattle.meaning.specs.Naming.{source, Leaves};
 ghost use Rattle.exporting.specs.Export.{exported_bytes};
@@ -13,7 +15,7 @@ use loftsplice::refusal::number;
 
 // A refusal's number or 0, the run count, and how many records are present.
 #[repr(C)]
-#[derive(Drop)]
+#[derive(Clone, Copy)]
 pub struct FlatImported {
     pub refusal: u32,
     pub runs: u64,
@@ -22,7 +24,7 @@ pub struct FlatImported {
 
 // A refusal's number or 0, and the bytes written.
 #[repr(C)]
-#[derive(Drop)]
+#[derive(Clone, Copy)]
 pub struct FlatExported {
     pub refusal: u32,
     pub bytes: u64,

@@ -1,4 +1,6 @@
 // The C interface: runs from a plain list.
+#![tactic(auto)]
+
 ghost use Rattle.std.specs.Prelude.{◌≡◌};
 ghost use Rattle.meaning.specs.Naming.{Leaves};
 ghost use Rattle.build.specs.Rule.{built_from};
@@ -10,7 +12,7 @@ use loftsplice::refusal::number;
 
 // A refusal's number or 0, and the run count.
 #[repr(C)]
-#[derive(Drop)]
+#[derive(Clone, Copy)]
 pub struct FlatBuilt {
     pub refusal: u32,
     pub runs: u64,

@@ -1,4 +1,6 @@
 // The C interface: the calls on a column. What is not given is 0.
+#![tactic(auto)]
+
 ghost use Rattle.std.specs.Prelude.{◌≡◌};
 ghost use Rattle.meaning.specs.Naming.{column, source};
 ghost use Rattle.meaning.specs.Calls.{check_of, len_of, is_empty_of, place_of, get_of, diff_step_of};
@@ -15,7 +17,7 @@ use loftsplice::run_length_encodable::{Difference, diff_step};
 
 // A refusal's number or 0, and the length.
 #[repr(C)]
-#[derive(Drop)]
+#[derive(Clone, Copy)]
 pub struct FlatLength {
     pub refusal: u32,
     pub length: u64,
@@ -23,7 +25,7 @@ pub struct FlatLength {
 
 // A refusal's number or 0, and 1 if there is no element.
 #[repr(C)]
-#[derive(Drop)]
+#[derive(Clone, Copy)]
 pub struct FlatEmptiness {
     pub refusal: u32,
     pub empty: u32,
@@ -31,7 +33,7 @@ pub struct FlatEmptiness {
 
 // A refusal's number or 0, and where an index lies: its run, its offset there, and how many elements follow from it on to the end of the run.
 #[repr(C)]
-#[derive(Drop)]
+#[derive(Clone, Copy)]
 pub struct FlatPlace {
     pub refusal: u32,
     pub run: u64,
@@ -41,7 +43,7 @@ pub struct FlatPlace {
 
 // 1 and a step, or 0.
 #[repr(C)]
-#[derive(Drop)]
+#[derive(Clone, Copy)]
 pub struct FlatDifference {
     pub found: u32,
     pub step: i16,

@@ -19,7 +19,7 @@ use meaning::Answer;
 
 // A scan, the folded bounds, a state: 0 Before, 1 Within, 2 After; and the mode. The kept bound is read in state 1 only, and given as none in the others.
 #[repr(C)]
-#[derive(Drop)]
+#[derive(Clone, Copy)]
 pub struct FlatFilter {
     pub scan: FlatScan,
     pub lower: FlatLimit,
@@ -31,7 +31,7 @@ pub struct FlatFilter {
 
 // A refusal's number and a filter that is none, or 0 and the filter.
 #[repr(C)]
-#[derive(Drop)]
+#[derive(Clone, Copy)]
 pub struct FlatNewFilter {
     pub refusal: u32,
     pub filter: FlatFilter,
@@ -39,7 +39,7 @@ pub struct FlatNewFilter {
 
 // The filter handed back with the answer.
 #[repr(C)]
-#[derive(Drop)]
+#[derive(Clone, Copy)]
 pub struct FlatSifted {
     pub filter: FlatFilter,
     pub answer: FlatAnswer,
@@ -47,7 +47,7 @@ pub struct FlatSifted {
 
 // 100 and the filter as it went in, or 0 and the filter.
 #[repr(C)]
-#[derive(Drop)]
+#[derive(Clone, Copy)]
 pub struct FlatReset {
     pub refusal: u32,
     pub filter: FlatFilter,

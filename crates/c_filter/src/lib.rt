@@ -1,3 +1,5 @@
 // The C interface: the interval filter.
+#![tactic(auto)]
+
 pub mod calls;
 pub mod flat;

@@ -1,4 +1,6 @@
 // The C interface: runs of calls on a filter.
+#![tactic(auto)]
+
 ghost use Rattle.std.specs.Prelude.{◌≡◌, length};
 ghost use Rattle.meaning.specs.Naming.{source};
 ghost use Rattle.filter_runs.specs.Runs.{filter_tally_of, refuse_filter_run, filter_next_run_of, filter_next_run_out, seek_run_at, seek_out_at};
@@ -16,7 +18,7 @@ use loftsplice::running::Counted;
 
 // The filter after the run, a refusal's number or 0, and the number of values.
 #[repr(C)]
-#[derive(Drop)]
+#[derive(Clone, Copy)]
 pub struct FlatFilterRan {
     pub filter: FlatFilter,
     pub refusal: u32,

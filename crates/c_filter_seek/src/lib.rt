@@ -1,5 +1,7 @@
 // The C interface: a filter's seek. It has a crate of its own so that `call` is compiled into it, and into the next, which has to be fast at few runs
 // (docs/BENCHMARKS.md, "Copies").
+#![tactic(auto)]
+
 ghost use Rattle.std.specs.Prelude.{◌≡◌};
 ghost use Rattle.meaning.specs.Naming.{source};
 ghost use Rattle.loftsplice.specs.declared.scan.Move.TheVariants.{Seek};

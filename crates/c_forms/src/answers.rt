@@ -10,7 +10,7 @@ use meaning::Answer;
 
 // A refusal's number or 0; 1 and the element, or 0 and 0.
 #[repr(C)]
-#[derive(Drop)]
+#[derive(Clone, Copy)]
 pub struct FlatAnswer {
     pub refusal: u32,
     pub found: u32,

@@ -24,7 +24,7 @@ use meaning::Answer;
 
 // A bound: kind 1 inclusive, 2 exclusive; or kind 0, no bound, and value 0.
 #[repr(C)]
-#[derive(Drop)]
+#[derive(Clone, Copy)]
 pub struct FlatLimit {
     pub value: i64,
     pub kind: u32,

@@ -7,7 +7,7 @@ use loftsplice::scan::{Carried, Scan, State};
 // A window, and a state: 0 fresh, 1 at an index, 2 ended. The index is read in state 1 only, and given as 0 in the others.
 // And what the scan carries: found 1 and the value, or found 0. The value is read where found is 1 only, and given as 0 where it is 0.
 #[repr(C)]
-#[derive(Drop)]
+#[derive(Clone, Copy)]
 pub struct FlatScan {
     pub start: u64,
     pub end: u64,

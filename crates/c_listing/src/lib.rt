@@ -1,4 +1,6 @@
 // The C interface: the batch listing.
+#![tactic(auto)]
+
 ghost use Rattle.std.specs.Prelude.{◌≡◌};
 ghost use Rattle.meaning.specs.Naming.{source};
 ghost use Rattle.loftsplice.specs.Listing.{says_listed};
@@ -11,7 +13,7 @@ use loftsplice::refusal::number;
 
 // A refusal's number or 0, and the number of values written.
 #[repr(C)]
-#[derive(Drop)]
+#[derive(Clone, Copy)]
 pub struct FlatListed {
     pub refusal: u32,
     pub sum: u64,

@@ -1,5 +1,7 @@
 // The C interface: columns read by profile. A profile comes as a number of 32 bits, as all numbers of a kind do here, and is refused by that number: cut to
 // a byte, 257 would be read as 1.
+#![tactic(auto)]
+
 ghost use Rattle.std.specs.Prelude.{◌≡◌};
 ghost use Rattle.meaning.specs.Naming.{source, sequence, Leaves};
 ghost use Rattle.profiles.specs.Profiles.{carries_of, carrying_in, filled_in};
@@ -11,7 +13,7 @@ use profiles::{Field, Listed, carries, carrying, filled};
 
 // A refusal's number or 0, and 1 if the record carries the field.
 #[repr(C)]
-#[derive(Drop)]
+#[derive(Clone, Copy)]
 pub struct FlatCarried {
     pub refusal: u32,
     pub carries: u32,
@@ -19,7 +21,7 @@ pub struct FlatCarried {
 
 // A refusal's number or 0, and the records written.
 #[repr(C)]
-#[derive(Drop)]
+#[derive(Clone, Copy)]
 pub struct FlatRecords {
     pub refusal: u32,
     pub written: u64,

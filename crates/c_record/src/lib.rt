@@ -1,4 +1,6 @@
 // The C interface: the stored record.
+#![tactic(auto)]
+
 ghost use Rattle.std.specs.Prelude.{◌≡◌};
 ghost use Rattle.meaning.specs.Naming.{column, Leaves};
 ghost use Rattle.codec.specs.Record.{record_of, column_in};
@@ -10,7 +12,7 @@ use record::{ReadRecord, Written, read, write};
 
 // A refusal's number or 0; the run count and the bytes used.
 #[repr(C)]
-#[derive(Drop)]
+#[derive(Clone, Copy)]
 pub struct FlatRead {
     pub refusal: u32,
     pub runs: u64,
@@ -19,7 +21,7 @@ pub struct FlatRead {
 
 // A refusal's number or 0, and the bytes written.
 #[repr(C)]
-#[derive(Drop)]
+#[derive(Clone, Copy)]
 pub struct FlatWritten {
     pub refusal: u32,
     pub bytes: u64,

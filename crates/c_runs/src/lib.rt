@@ -1,4 +1,6 @@
 // The C interface: runs of calls on a scan.
+#![tactic(auto)]
+
 ghost use Rattle.std.specs.Prelude.{◌≡◌, length};
 ghost use Rattle.meaning.specs.Naming.{source};
 ghost use Rattle.loftsplice.specs.Running.{tally_of, refuse_run, next_run_of, next_run_out, seek_run_of, seek_run_out};
@@ -13,7 +15,7 @@ use run_calls::seek_run;
 
 // The scan after the run, a refusal's number or 0, and the number of values.
 #[repr(C)]
-#[derive(Drop)]
+#[derive(Clone, Copy)]
 pub struct FlatRan {
     pub scan: FlatScan,
     pub refusal: u32,

@@ -1,4 +1,6 @@
 // The C interface: the calls on a scan.
+#![tactic(auto)]
+
 ghost use Rattle.std.specs.Prelude.{◌≡◌};
 ghost use Rattle.meaning.specs.Naming.{source};
 ghost use Rattle.loftsplice.specs.Scan.{outcome_of, says_position, new_of, next_of, seek_of, narrow_of, reset_of, current_of, pos_of};
@@ -13,7 +15,7 @@ use meaning::Answer;
 
 // A refusal's number and a scan that is none, or 0 and the scan.
 #[repr(C)]
-#[derive(Drop)]
+#[derive(Clone, Copy)]
 pub struct FlatNewScan {
     pub refusal: u32,
     pub scan: FlatScan,
@@ -21,7 +23,7 @@ pub struct FlatNewScan {
 
 // "Its calls take the scan and hand it back with the answer"
 #[repr(C)]
-#[derive(Drop)]
+#[derive(Clone, Copy)]
 pub struct FlatMoved {
     pub scan: FlatScan,
     pub answer: FlatAnswer,
@@ -29,7 +31,7 @@ pub struct FlatMoved {
 
 // A refusal's number or 0; 1 and the index, or 0 and 0.
 #[repr(C)]
-#[derive(Drop)]
+#[derive(Clone, Copy)]
 pub struct FlatPosition {
     pub refusal: u32,
     pub found: u32,

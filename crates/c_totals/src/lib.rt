@@ -1,4 +1,6 @@
 // The C interface: exact totals.
+#![tactic(auto)]
+
 ghost use Rattle.std.specs.Prelude.{◌≡◌};
 ghost use Rattle.meaning.specs.Naming.{sequence, source, Leaves};
 ghost use Rattle.totals.specs.Says.{says_totalled, totalling, counts_in, leasts_in, greatests_in, highs_in, lows_in};
@@ -9,7 +11,7 @@ use totals::{Edges, Total, Totalled, totals};
 
 // A refusal's number or 0; over all windows how many elements; 1 and the least and the greatest, or 0 and two zeros; the high and the low of the sum.
 #[repr(C)]
-#[derive(Drop)]
+#[derive(Clone, Copy)]
 pub struct FlatTotalled {
     pub refusal: u32,
     pub found: u32,

@@ -62,7 +62,7 @@ fn turned(low: u64, end: u64, start: i64, step: i16) -> u64
 }
 
 // How far a quick pass came: that many runs, and the end of the last of them.
-#[derive(Drop)]
+#[derive(Clone, Copy)]
 struct Passed {
     last: u64,
     runs: usize,

@@ -1,5 +1,7 @@
 // Numbers and columns as bytes: the definitions are in specs/, the laws about them in proofs/. The code is two's complement, with
 // no cast that changes a value; LLVM makes nothing of it.
+#![tactic(auto)]
+
 ghost use Rattle.std.specs.Prelude.{◌≡◌};
 ghost use Rattle.codec.specs.Bytes.{to_signed, of_signed};
 

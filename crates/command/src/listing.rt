@@ -64,7 +64,7 @@ fn piece_end(at: u64, end: u64) -> u64
 }
 
 // What became of a piece.
-#[derive(Drop)]
+#[derive(Clone, Copy)]
 enum Part {
     // a refusal, or a write that failed
     Stopped,

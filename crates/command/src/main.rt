@@ -1,5 +1,7 @@
 // The command loftsplice: checks, lists, searches and builds a column that is stored as a record; docs/COMMAND.md says how it is called and what it writes.
 // A Rattle program has no exit status. What went wrong is the last line on standard error, of which the wrapper ./loftsplice makes one.
+#![tactic(auto)]
+
 use telling::wrong;
 use words::arguments;
 use words::options::Command;

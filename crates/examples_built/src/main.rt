@@ -1,4 +1,6 @@
 // Examples of columns made from plain lists and from bitmaps. What this writes is held to what a model of the requirements says (oracle/document).
+#![tactic(auto)]
+
 mod built;
 mod mapped;
 

@@ -1,4 +1,6 @@
 // Examples of scans, by value and lent. What this writes is held to what a model of document 01 says (oracle/document).
+#![tactic(auto)]
+
 mod lending;
 mod scanned;
 

@@ -1,4 +1,6 @@
 // Document 02, request 3: the bitmap of a rising column. All is tried before anything is written.
+#![tactic(auto)]
+
 ghost use Rattle.std.specs.Prelude.{◌≡◌, true, ◌≤◌, length};
 ghost use Rattle.meaning.specs.Column.{sound};
 ghost use Rattle.meaning.specs.Naming.{column_now, source, Leaves};
@@ -16,7 +18,7 @@ use recorded::check_records;
 pub mod marking;
 
 // The bytes written, or a refusal.
-#[derive(Drop)]
+#[derive(Clone, Copy)]
 pub enum Exported {
     Bytes(usize),
     Refused(Refusal),

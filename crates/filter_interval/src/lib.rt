@@ -1,4 +1,6 @@
 // The interval filter: the Rust's filter_interval.rs. It holds its scan by value.
+#![tactic(auto)]
+
 ghost use Rattle.std.specs.Prelude.{◌≡◌};
 ghost use Rattle.meaning.specs.Naming.{source};
 ghost use Rattle.loftsplice.specs.declared.scan.Move.TheVariants.{Next, Seek};
@@ -14,7 +16,7 @@ use loftsplice::scan::{Move, Scan};
 use meaning::{Answer, Refusal};
 
 // Before, Within (with the upper bound that it keeps), After.
-#[derive(Drop)]
+#[derive(Clone, Copy)]
 pub enum FilterState {
     Before,
     Within(Limit),
@@ -22,7 +24,7 @@ pub enum FilterState {
 }
 
 // A filter: its scan, how it folds upper bounds, the constant bounds folded, its state.
-#[derive(Drop)]
+#[derive(Clone, Copy)]
 pub struct Filter {
     pub scan: Scan,
     pub mode: Mode,
@@ -32,14 +34,14 @@ pub struct Filter {
 }
 
 // The filter handed back with the answer.
-#[derive(Drop)]
+#[derive(Clone, Copy)]
 pub struct Sifted {
     pub filter: Filter,
     pub answer: Answer,
 }
 
 // A new filter, or a refusal.
-#[derive(Drop)]
+#[derive(Clone, Copy)]
 pub enum Fitted {
     Ready(Filter),
     Refused(Refusal),

@@ -17,7 +17,7 @@ use loftsplice::scan::{Move, Moved};
 use meaning::Answer;
 
 // Where a call leads the scan, and the limit above that is then to be met. Where a bound was not read: nowhere, and the filter's own limit.
-#[derive(Drop)]
+#[derive(Clone, Copy)]
 pub struct Asked {
     pub unread: bool,
     pub lead: Lead,

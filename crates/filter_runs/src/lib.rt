@@ -1,5 +1,7 @@
 // A run of calls on a filter in one call. After the first call, which reads the bounds, a filter keeps one limit; in a window that rises the elements
 // that meet it lie before one index, and up to there a run of the filter is a run of its scan.
+#![tactic(auto)]
+
 ghost use Rattle.std.specs.Prelude.{◌≡◌, true, ◌≤◌, ◌<◌, length};
 ghost use Rattle.meaning.specs.Sequence.{rises};
 ghost use Rattle.meaning.specs.Column.{size_of, sequence_of, sound};
@@ -21,7 +23,7 @@ use loftsplice::scan::{Carried, Move, Scan, State};
 use meaning::Answer;
 
 // The filter after a run of calls, and the number of values.
-#[derive(Drop)]
+#[derive(Clone, Copy)]
 pub struct FilterRan {
     pub filter: Filter,
     pub counted: Counted,

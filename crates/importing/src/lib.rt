@@ -1,5 +1,7 @@
 // Document 02, request 3: the column of the records that are present in a bitmap. There is no list of them: it goes from one to the next. The runs are
 // found once, and kept, a number a run; the room is tried before anything is written.
+#![tactic(auto)]
+
 ghost use Rattle.std.specs.Prelude.{◌≡◌, ◌≤◌, ◌+◌, ◌*◌, min, length};
 ghost use Rattle.std.proofs.lemmas.List.Edits.{sets};
 ghost use Rattle.meaning.specs.Naming.{Leaves};
@@ -15,7 +17,7 @@ use bits::{count_present, next_present};
 use meaning::Refusal;
 
 // The run count and the ones, or a refusal.
-#[derive(Drop)]
+#[derive(Clone, Copy)]
 pub enum Imported {
     Runs(usize, usize),
     Refused(Refusal),

@@ -7,7 +7,7 @@ ghost use Rattle.importing.specs.Inner.{First, Going, Behind};
 use bits::{next_absent, next_present, window};
 
 // A run: its step, the number of its records, and the record at which the next one begins.
-#[derive(Drop)]
+#[derive(Clone, Copy)]
 struct Run {
     step: usize,
     n: usize,
@@ -30,7 +30,7 @@ fn run_of_ones(bytes: &[u8], at: usize, count: usize) -> Run
 }
 
 // How far a run that has begun goes: its last record so far, and the number of its records.
-#[derive(Drop)]
+#[derive(Clone, Copy)]
 struct Far {
     last: usize,
     n: usize,
@@ -182,7 +182,7 @@ fn run_at(bytes: &[u8], at: usize, count: usize) -> Run
 }
 
 // A run as above, and what a window shows behind the record at which the next one begins.
-#[derive(Drop)]
+#[derive(Clone, Copy)]
 pub(crate) struct Found {
     pub(crate) step: usize,
     pub(crate) n: usize,

@@ -1,5 +1,7 @@
 // The calls of a scan that is lent for writing and moved where it stands, as in the Rust: each is thin over the call by value of the same name.
 // A refusal leaves the scan as lent. Above each is one with plain parameters, which lends a scan of its own: whoever calls that lends nothing.
+#![tactic(auto)]
+
 ghost use Rattle.std.specs.Prelude.{◌≡◌};
 ghost use Rattle.meaning.specs.Naming.{source};
 ghost use Rattle.loftsplice.specs.declared.scan.Move.TheVariants.{Next, Seek};

@@ -20,21 +20,21 @@ use checked::Checked;
 use meaning::Refusal;
 
 // The number of values, or a refusal.
-#[derive(Drop)]
+#[derive(Clone, Copy)]
 pub enum Counted {
     Values(u64),
     Refused(Refusal),
 }
 
 // The scan after a run of calls, and the number of values.
-#[derive(Drop)]
+#[derive(Clone, Copy)]
 pub struct Ran {
     pub scan: Scan,
     pub counted: Counted,
 }
 
 // Where a run of seeks begins: an index, its run and its element; and of the window's last index the run and the element, which no answer is above.
-#[derive(Drop)]
+#[derive(Clone, Copy)]
 pub struct Footing {
     pub index: u64,
     pub run: usize,
@@ -44,7 +44,7 @@ pub struct Footing {
 }
 
 // A footing; none, past the window; or a refusal.
-#[derive(Drop)]
+#[derive(Clone, Copy)]
 pub enum Footed {
     On(Footing),
     Past,

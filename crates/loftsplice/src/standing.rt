@@ -15,7 +15,7 @@ use checked::{Checked, check};
 use meaning::{Place, Refusal};
 
 // A scan that was looked at: fine or refused, and where it stands if it is fine and at an index.
-#[derive(Drop)]
+#[derive(Clone, Copy)]
 pub(crate) struct Stand {
     pub(crate) checked: Checked,
     pub(crate) at: Spot,

@@ -1,5 +1,7 @@
 // Which of some numbers a column carries, in any order: a run of seeks for each stretch of numbers that do not fall, so that a sorted list costs one
 // check of the column for 512 numbers.
+#![tactic(auto)]
+
 ghost use Rattle.std.specs.Prelude.{◌≡◌, true, ◌≤◌, ◌<◌, length};
 ghost use Rattle.meaning.specs.Refusals.{Gives};
 ghost use Rattle.meaning.specs.Column.{end_before};

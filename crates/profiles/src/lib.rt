@@ -1,5 +1,7 @@
 // Document 02, request 7: two reading profiles. A column lists the records that carry a field (profile 1), or those that leave it empty (profile 2).
 // All is tried before anything is written.
+#![tactic(auto)]
+
 ghost use Rattle.std.specs.Prelude.{◌≡◌, ◌||◌, eqb};
 ghost use Rattle.meaning.specs.Refusals.{Gives};
 ghost use Rattle.meaning.specs.Naming.{column_now, sequence, source, Leaves};
@@ -20,7 +22,7 @@ pub mod spans;
 pub mod writing;
 
 // Whether a record carries the field, or a refusal.
-#[derive(Drop)]
+#[derive(Clone, Copy)]
 pub enum Field {
     Yes,
     No,
@@ -28,7 +30,7 @@ pub enum Field {
 }
 
 // How many records were written, or a refusal.
-#[derive(Drop)]
+#[derive(Clone, Copy)]
 pub enum Listed {
     Records(u64),
     Refused(Refusal),

@@ -11,7 +11,7 @@ ghost use Rattle.profiles.specs.Inner.{Fits, RunIs, Below, Strip, Covers, neares
 use keys::{bias, size16};
 
 // A run of record numbers: its first, its step, and how many follow the first.
-#[derive(Drop)]
+#[derive(Clone, Copy)]
 pub(crate) struct Run {
     pub(crate) first: u64,
     pub(crate) step: u64,
@@ -19,7 +19,7 @@ pub(crate) struct Run {
 }
 
 // n record numbers a step apart.
-#[derive(Drop)]
+#[derive(Clone, Copy)]
 pub(crate) struct Part {
     pub(crate) first: u64,
     pub(crate) step: u64,

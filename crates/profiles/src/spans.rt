@@ -5,7 +5,7 @@ ghost use Rattle.profiles.specs.Inner.{Split, Covers};
 use keys::bias;
 
 // The runs begin..stop.
-#[derive(Drop)]
+#[derive(Clone, Copy)]
 pub(crate) struct Span {
     pub(crate) begin: usize,
     pub(crate) stop: usize,

@@ -1,4 +1,6 @@
 // The stored record: a column as bytes, and bytes as a column. Both calls try all before they write anything.
+#![tactic(auto)]
+
 ghost use Rattle.std.specs.Prelude.{◌≡◌};
 ghost use Rattle.meaning.specs.Naming.{column, Leaves};
 ghost use Rattle.codec.specs.Record.{record_of, column_in};
@@ -14,14 +16,14 @@ mod reading;
 mod writing;
 
 // The run count and the bytes used, or a refusal.
-#[derive(Drop)]
+#[derive(Clone, Copy)]
 pub enum ReadRecord {
     Runs(usize, usize),
     Refused(Refusal),
 }
 
 // The bytes written, or a refusal.
-#[derive(Drop)]
+#[derive(Clone, Copy)]
 pub enum Written {
     Bytes(usize),
     Refused(Refusal),

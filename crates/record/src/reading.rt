@@ -14,14 +14,14 @@ use codec::{signed16, signed64};
 use meaning::Refusal;
 
 // The number of runs of a record whose length and kind are right, or a refusal.
-#[derive(Drop)]
+#[derive(Clone, Copy)]
 pub(crate) enum Opened {
     Runs(usize),
     Refused(Refusal),
 }
 
 // A run as it is stored.
-#[derive(Drop)]
+#[derive(Clone, Copy)]
 struct Run {
     start: i64,
     step: i16,

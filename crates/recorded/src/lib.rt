@@ -1,5 +1,7 @@
 // Document 02, requests 3 and 7: whether a column holds record numbers, of count records, each above the one before. Total, so that export and
 // the reading profiles both stand on it.
+#![tactic(auto)]
+
 ghost use Rattle.std.specs.Prelude.{◌≡◌, true};
 ghost use Rattle.meaning.specs.Column.{sound};
 ghost use Rattle.meaning.specs.Naming.{column_now, source};

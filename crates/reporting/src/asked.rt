@@ -2,7 +2,7 @@
 ghost use Rattle.std.specs.Prelude.{◌≡◌, ◌+◌, ◌-◌, eqb};
 
 // What is asked: by which profile, of how many records, in which window.
-#[derive(Drop)]
+#[derive(Clone, Copy)]
 pub struct Asked {
     pub profile: u8,
     pub count: u64,

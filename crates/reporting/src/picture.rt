@@ -25,7 +25,7 @@ pub fn shade(carried: u64, size: u64) -> u64 {
 }
 
 // Columns of one shade, side by side: where they begin, their shade, and the place in the buffer.
-#[derive(Drop)]
+#[derive(Clone, Copy)]
 pub struct Strip {
     pub from: u64,
     pub shade: u64,

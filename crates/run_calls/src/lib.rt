@@ -1,5 +1,7 @@
 // A run of seeks in one call: a seek of each target in turn, behind one check of the column. How many targets are answered is known first, by one
 // comparison each; then it goes by runs: what a run's numbers answer is answered with these numbers alone.
+#![tactic(auto)]
+
 ghost use Rattle.std.specs.Prelude.{◌≡◌, false, ℕ, suc, ◌-◌, ◌≤◌, ◌<◌, pos, length, get_or};
 ghost use Rattle.std.specs.Int.Signed.{lt_z};
 ghost use Rattle.ranges.specs.Ranges.{first_from};
@@ -48,7 +50,7 @@ fn walk(starts: &[i64], target: i64, from: usize, last: usize) -> usize
 }
 
 // Where seeks stand among the elements of one run: the place, and the element.
-#[derive(Drop)]
+#[derive(Clone, Copy)]
 struct Spot {
     at: u64,
     value: i64,
@@ -80,7 +82,7 @@ fn hop(base: i64, step: i16, at: u64, value: i64, target: i64) -> Spot
 }
 
 // How many seeks were made, and the place where they stand.
-#[derive(Drop)]
+#[derive(Clone, Copy)]
 struct Sought {
     made: usize,
     at: u64,

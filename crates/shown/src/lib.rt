@@ -1,4 +1,6 @@
 // Answers as text on standard output, for the programs that run examples. What is written is compared with stored text, not proved.
+#![tactic(auto)]
+
 use checked::Checked;
 use libc::STDOUT_FILENO;
 use loftsplice::listing::Listed;

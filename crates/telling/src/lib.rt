@@ -1,4 +1,6 @@
 // What the command writes: answers in one of three formats, messages, refusals, and which word is wrong.
+#![tactic(auto)]
+
 pub mod forms;
 pub mod printing;
 pub mod rows;

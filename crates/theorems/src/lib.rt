@@ -60,3 +60,4 @@
 //   Folded        a run of accepted calls is its steps, and goes by its two folded bounds
 //   Seeks         numbers that are sought in rising order, each as if it were sought alone
 //   Parts         windows that are listed one after the other: the values and the count of each
+#![tactic(auto)]

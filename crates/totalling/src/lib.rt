@@ -1,5 +1,7 @@
 // totals FILE [START END]..: of each window, or of the whole column, the number of its elements, the least, the greatest and the exact sum; and the same
 // over all windows. Nothing is written before all is known.
+#![tactic(auto)]
+
 ghost use Rattle.std.specs.Prelude.{◌≡◌, ◌≤◌};
 ghost use Rattle.totals.specs.Totals.{worth};
 ghost use Rattle.totalling.specs.Decimal.{text_of};

@@ -1,4 +1,6 @@
 // Document 02, request 11: exact totals of windows. All is tried before anything is written.
+#![tactic(auto)]
+
 ghost use Rattle.std.specs.Prelude.{◌≡◌, true, List, [], ◌∷◌, ℕ, length, ℤ};
 ghost use Rattle.meaning.specs.Parts.{each};
 ghost use Rattle.meaning.specs.Column.{sequence_of, sound};
@@ -19,14 +21,14 @@ pub mod walking;
 pub mod writing;
 
 // The least and the greatest, where there are any.
-#[derive(Drop)]
+#[derive(Clone, Copy)]
 pub enum Edges {
     None,
     Are(i64, i64),
 }
 
 // Over all windows: how many elements, the least and the greatest, and the sum, which is high · 2^32 + low.
-#[derive(Drop)]
+#[derive(Clone, Copy)]
 pub struct Total {
     pub count: u64,
     pub edges: Edges,
@@ -35,7 +37,7 @@ pub struct Total {
 }
 
 // The total over all windows, or a refusal.
-#[derive(Drop)]
+#[derive(Clone, Copy)]
 pub enum Totalled {
     All(Total),
     Refused(Refusal),

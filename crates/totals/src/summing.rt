@@ -12,7 +12,7 @@ use keys::{bias, is_down, size16};
 use loftsplice::seeking::smaller;
 
 // Sums of some keys: top · 2^64 + mid · 2^32 + low; and the least and the greatest of them.
-#[derive(Drop)]
+#[derive(Clone, Copy)]
 pub(crate) struct Sums {
     pub(crate) top: u64,
     pub(crate) mid: u64,

@@ -64,7 +64,7 @@ fn count_of(from: u64, to: u64) -> u64
 }
 
 // How many elements all windows have; or that one ends beyond the column.
-#[derive(Drop)]
+#[derive(Clone, Copy)]
 pub(crate) enum Counting {
     All(u64),
     Beyond,

@@ -302,7 +302,7 @@ fn collect(file: usize, i: usize, out: &mut [i64; 512], n: usize) -> usize
 }
 
 // What the arguments from one on came to: so many numbers, and the argument to go on from.
-#[derive(Drop)]
+#[derive(Clone, Copy)]
 pub struct Batch {
     pub count: usize,
     pub next: usize,

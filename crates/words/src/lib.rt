@@ -1,4 +1,6 @@
 // What the command is called with: numbers as they are written on its line or in a file, and where each word stands that says what is asked for.
+#![tactic(auto)]
+
 pub mod arguments;
 pub mod lines;
 pub mod numbers;

@@ -2,7 +2,7 @@
 use crate::numbers::{Signed, read_signed};
 
 // What a chunk came to: its numbers, how many bytes are held of the line that it ends in, and whether a line is no number.
-#[derive(Drop)]
+#[derive(Clone, Copy)]
 pub struct Lines {
     pub count: usize,
     pub held: usize,

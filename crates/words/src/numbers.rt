@@ -1,12 +1,12 @@
 // Numbers as they are written in arguments: decimal digits, and a minus before them where a number may be below zero.
 
-#[derive(Drop)]
+#[derive(Clone, Copy)]
 pub enum Unsigned {
     Is(u64),
     Not,
 }
 
-#[derive(Drop)]
+#[derive(Clone, Copy)]
 pub enum Signed {
     Is(i64),
     Not,

@@ -6,7 +6,7 @@ use crate::places::{
     ABOVE, BELOW, COUNT, CSV, FILLED, FORMAT, FROM, HTML, JSON, LINES, NUMBERS, PROFILE, RISING, TO,
 };
 
-#[derive(Drop)]
+#[derive(Clone, Copy)]
 pub enum Command {
     Check,
     List,
