@@ -1,0 +1,363 @@
+#!/usr/bin/env python3
+"""Turns the proofs of an older Rattle, walks in proofs/F/Proof.antt, into today's files: proofs/F/Invariants.antt and proofs/F/Answers.antt.
+
+    python3 tools/answers.py NAMES CRATE [MODULE.FUNCTION ..]
+
+NAMES is the folder that `rt names NAMES` wrote, of which CRATE's names.json tells the old and the new name of each goal, step and clause. Answers that only
+searched are left out, since the check searches by itself. What it could not turn it prints. It proves nothing: `rt check` decides.
+"""
+import json
+import pathlib
+import re
+import sys
+
+WORD = r"[A-Za-z_][\w'₀₁-]*"
+norm = lambda it: re.sub(r'[-_]+', '-', it)
+
+
+def labels(crate, function):
+    """The names of a function's requires and ensures, from its source."""
+    name = function.split('.')[-1]
+    for path in sorted(pathlib.Path('crates', crate, 'src').rglob('*.rt')):
+        text = path.read_text()
+        module = '' if path.stem in ('lib', 'main') else path.stem
+        if '.' in function and module and function.split('.')[0] != module:
+            continue
+        if module == '' and '.' in function and not re.search(r'\bmod %s \{' % function.split('.')[0], text) and 'impl' not in text:
+            continue
+        for m in re.finditer(r'\bfn %s\b' % re.escape(name), text):
+            head = text[m.start():]
+            end = re.search(r'\n *\{\n|\)(?: -> [^\n]*)? \{\n', head)
+            head = head[:end.start() + 1] if end else head
+            return (re.findall(r'\brequires (\w+)? ?\{', head), re.findall(r'\bensures (\w+)? ?\{', head))
+    return ([], [])
+
+
+def blocks(text):
+    """The head (comment and use lines), and the declarations, each with the comments above it."""
+    lines = text.split('\n')
+    head, at = [], 0
+    while at < len(lines) and (lines[at].startswith(('--', 'use ', 'pub use')) or not lines[at].strip()):
+        if lines[at].startswith('--') and any(l.startswith('use ') for l in head):
+            break
+        head.append(lines[at])
+        at += 1
+    out, now = [], []
+    for line in lines[at:]:
+        if not line.strip():
+            if now and not all(l.startswith('--') for l in now):
+                out.append(now)
+                now = []
+            elif now:
+                out.append(now)
+                now = []
+            continue
+        now.append(line)
+    if now:
+        out.append(now)
+    merged = []
+    for b in out:
+        if merged and b[0][:1].isspace():  # a blank line inside a declaration
+            merged[-1] += [''] + b
+        else:
+            merged.append(b)
+    return head, merged
+
+
+class Turned:
+    def __init__(self, crate, function, names):
+        self.crate, self.function, self.names = crate, function, names
+        self.requires, self.ensures = labels(crate, function)
+        n = names
+        self.needs = {norm(a): b for a, b in n['needs']}
+        self.places, self.fields, self.clauses, self.raw, self.arms = {}, {}, {}, {}, {}
+        for i, (place, parent, (old, new), call, subs) in enumerate(n['places']):
+            self.places[norm(place)] = n['places_by_name'][i]
+            if old:
+                self.fields.setdefault(norm(old), new)
+                for a, b in subs:
+                    self.raw.setdefault(norm(old), {})[a] = b
+            c = n['clauses'][i]
+            if c and old:
+                self.clauses[norm(old)] = c['fields']
+            arm = n['arms'][i]
+            if arm:
+                for field, holder, path in arm[2]:
+                    if path:
+                        self.arms[(norm(holder), tuple(path))] = (arm[0], field)
+        for (old, new), _ in n['loops']:
+            self.fields[norm(old)] = new
+        self.left = []
+
+    # ---- paths
+
+    def clause(self, names, rest):
+        """Names the clause that a nested tuple's index reads."""
+        if len(names) < 2 or not rest or not rest[0].isdigit():
+            return rest
+        k, at = 0, 0
+        while at < len(rest) and rest[at] == '1' and k < len(names) - 1:
+            k, at = k + 1, at + 1
+        if k < len(names) - 1:
+            if at < len(rest) and rest[at] == '0':
+                at += 1
+            else:
+                return rest
+        return [names[k]] + rest[at:]
+
+    def path(self, parts):
+        out, i = [], 0
+        while i < len(parts):
+            p, rest = parts[i], parts[i + 1:]
+            if p == 'before':
+                if any(q != 'before' for q in rest):
+                    i += 1
+                    continue
+                out.append(p)
+            elif p in ('taken', 'left', 'true', 'false', 'fact'):
+                key = norm(parts[i - 1]) if i else ''
+                now = {'taken': 'true', 'left': 'false'}.get(p, p)
+                out.append(self.raw.get(key, {}).get(now, now))
+            elif p == 'requires' and i and False:
+                out.append(p)
+            else:
+                hit = None
+                for n in (3, 2, 1):
+                    if (norm(p), tuple(rest[:n])) in self.arms:
+                        hit = self.arms[(norm(p), tuple(rest[:n]))], n
+                        break
+                if hit:
+                    out += list(hit[0])
+                    i += 1 + hit[1]
+                    continue
+                if norm(p) in self.fields:
+                    out.append(self.fields[norm(p)])
+                    if rest[:1] == ['ensures'] and norm(p) in self.clauses:
+                        out.append('ensures')
+                        tail = self.clause(self.clauses[norm(p)], rest[1:])
+                        return out + self.path(tail)
+                elif p == 'requires':
+                    out.append(p)
+                    tail = self.clause(self.requires, rest)
+                    return out + self.path(tail)
+                else:
+                    out.append(p)
+            i += 1
+        return out
+
+    def term(self, text):
+        alias = {}
+
+        def turn(m):
+            var, rest = m[1], m[2].split('.')[1:]
+            if var in alias:
+                rest = self.clause(alias[var], rest)
+                return '.'.join([var] + self.path(rest))
+            return '.'.join([var] + self.path(rest))
+
+        def line(text):
+            return re.sub(r"(?<![\w.'-])(%s|\))((?:\.[\w'-]+)+)" % WORD, turn, text)
+
+        out = []
+        for row in text.split('\n'):
+            if row.lstrip().startswith('--'):
+                out.append(row)
+                continue
+            for m in re.finditer(r"let (%s) = (\S+)\.ensures in" % WORD, row):
+                key = norm(m[2].split('.')[-1])
+                if key in self.clauses:
+                    alias[m[1]] = self.clauses[key]
+            for m in re.finditer(r"let (%s) = \S*\brequires in" % WORD, row):
+                alias[m[1]] = self.requires
+            out.append(line(row))
+        return '\n'.join(out)
+
+    def types(self, text):
+        loops = [f"{k}-{o}" for (o, _), _ in self.names['loops'] for k in ('invariant', 'decreases')]
+
+        def turn(m):
+            place = self.places.get(norm(m[1]))
+            if not place:
+                self.left.append('place ' + m[1])
+                return m[0]
+            self.used.add(place)
+            return place
+
+        text = re.sub(r"tie\.([A-Z][\w'-]*)((?: +(?:invariant|decreases)-[\w-]+)*)", turn, text)
+        return text
+
+    # ---- answers
+
+    def record(self, body, names):
+        """A tuple at the end of an answer, as a record by the names of the clauses."""
+        if len(names) < 2:
+            return body
+        text = body.rstrip()
+        if not text.endswith(')'):
+            return body
+        depth, start = 0, None
+        for i in range(len(text) - 1, -1, -1):
+            depth += (text[i] in ')]}') - (text[i] in '([{')
+            if depth == 0:
+                start = i
+                break
+        before = text[:start].rstrip()
+        if not (before == '' or before.endswith((' in', '\nin', '=')) or before.endswith('in')):
+            return body
+        if text[start] != '(':
+            return body
+        parts = self.tuple(text[start:], len(names))
+        if len(parts) != len(names):
+            return body
+        fields = ''.join(f"\n  {n} = {p.strip()};" for n, p in zip(names, parts))
+        return text[:start] + 'record {' + fields + '\n}'
+
+    def tuple(self, text, n):
+        inner, depth, parts, start = text[1:-1], 0, [], 0
+        for i, ch in enumerate(inner):
+            depth += (ch in '([{') - (ch in ')]}')
+            if ch == ',' and depth == 0:
+                parts.append(inner[start:i])
+                start = i + 1
+        parts.append(inner[start:])
+        parts = [p for p in parts if p.strip()]
+        if len(parts) > n:
+            return []
+        if len(parts) < n and parts and parts[-1].strip().startswith('('):
+            last = parts[-1].strip()
+            parts = parts[:-1] + self.tuple(last, n - len(parts) + 1)
+        return parts
+
+    def run(self, path):
+        text = path.read_text()
+        if 'as tie' not in text:
+            return None
+        head, decls = blocks(text)
+        self.used = set()
+        invariants, answers, inv_words = [], [], set()
+        loops = {norm(o): (new, vs, ch) for ((o, new), vs), ch in zip(self.names['loops'], self.names['changed'] or [[]] * 9)}
+        for b in decls:
+            code = [l for l in b if not l.startswith('--')]
+            if not code:
+                answers.append('\n'.join(b))
+                continue
+            notes = [l for l in b if l.startswith('--')]
+            sig = code[0]
+            whole = '\n'.join(code)
+            if 'tie.close' in whole:
+                continue
+            m = re.match(r"(?:abbrev )?(?:pub )?(\S+) : tie\.(invariant|decreases)-([\w-]+)", sig)
+            if m:
+                name, kind, loop = m[1], m[2], norm(m[3])
+                if loop not in loops:
+                    self.left.append('loop ' + m[3])
+                    continue
+                new, vs, ch = loops[loop]
+                eq = '\n'.join(l for l in code[1:])
+                unf = re.match(r"(unfolding [^\n]*)\n", eq)
+                if unf:
+                    eq = eq[unf.end():]
+                e = re.match(re.escape(name) + r"((?: \S+)*?) =\s*", eq)
+                params = e[1].split()
+                body = eq[e.end():]
+                subs = {}
+                flags = ch if len(ch) == len(vs) else [True] * len(vs)
+                slots = [('l.' + v) for v, c in zip(vs, flags) if not c] + [('l.initial.' + v) for v, c in zip(vs, flags) if c] + [('l.' + v) for v, c in zip(vs, flags) if c]
+                # unchanged variables keep their places among the changed ones' first values
+                first, last = [], []
+                for v, c in zip(vs, flags):
+                    first.append(('l.initial.' if c else 'l.') + v)
+                    if c:
+                        last.append('l.' + v)
+                slots = first + last
+                if len(params) == len(slots):
+                    subs = dict(zip(params, slots))
+                else:
+                    base = {}
+                    for q in params:
+                        v = re.sub(r"[₀₁]$", '', q)
+                        base[q] = ('l.initial.' if q.endswith('₀') else 'l.') + v
+                    subs = base
+                    self.left.append(f'parameters of {kind} {loop}: {len(params)} for {len(slots)}')
+                subs.pop('_', None)
+                body = re.sub(r"(?<![\w.'-])(%s)(?![\w'₀₁-])" % WORD, lambda w: subs.get(w[1], w[1]), body)
+                invariants.append('\n'.join(notes + [f"abbrev pub {kind}-{new} : goal.{kind}-{new}"] + ([unf[1]] if unf else []) + [f"{kind}-{new} l = {body}"]))
+                continue
+            m = re.match(r"(?:pub )?(\S+) : tie\.Need-(\S+)", sig)
+            if m:
+                name, need = m[1], norm(m[2])
+                new = self.needs.get(need) or self.needs.get(re.sub(r'^(overflow|slice)-', '', need)) or self.needs.get(need.replace('overflow-', ''))
+                eq = '\n'.join(code[1:])
+                unf = re.match(r"(unfolding [^\n]*)\n", eq)
+                if unf:
+                    eq = eq[unf.end():]
+                e = re.match(re.escape(name) + r"((?: \S+)*?) =[ \n]", eq)
+                if not e:
+                    self.left.append('answer ' + name + ': its form')
+                    answers.append('\n'.join(['-- LEFT: ' + name] + ['-- ' + l for l in code]))
+                    continue
+                body = eq[e.end():]
+                if not new:
+                    self.left.append('goal ' + m[2])
+                    new = name
+                    notes = notes + ['-- LEFT: no such goal: ' + m[2]]
+                if re.fullmatch(r"\s*search (rules|needs)\s*", body) or re.fullmatch(r"\s*omega arith\s*", body):
+                    continue
+                where = re.search(r"\n  where\n", body)
+                tail = body[where.start():] if where else ''
+                main = body[:where.start()] if where else body
+                names = self.names['asked'].get(new) or (self.ensures if new.startswith('returns') and len(self.ensures) > 1 else [])
+                main = self.record(self.term(main), names)
+                if tail:
+                    tail = self.types(self.term(tail))
+                params = e[1].split()
+                pars = [q for q in params if q != 'κs']
+                start = ' ' if not main.startswith(('\n', ' ')) else ('\n' if not main.startswith('\n') else '')
+                answers.append('\n'.join(notes + [f"pub {new} : goal.{new}"] + ([unf[1]] if unf else []) + [f"{new} {' '.join(pars)} =" + start + main + tail]))
+                continue
+            answers.append('\n'.join(notes + [self.types(self.term(whole))]))
+        mod = f"Rattle.{self.crate}.proofs.{self.function}"
+        uses = [l for l in head if l.startswith('use ') and ' as tie' not in l and '.Statement.' not in l and not l.startswith('use denote.Slice')]
+        top = [l for l in head if l.startswith('--')]
+        comment = []
+        for l in head:
+            if l.startswith('--'):
+                comment.append(l)
+        folder = path.parent
+        path.unlink()
+        for name in ('Invariants', 'Answers'):
+            parts = invariants if name == 'Invariants' else answers
+            if not [p for p in parts if not all(l.startswith('--') for l in p.split('\n'))]:
+                continue
+            lines = (comment if name == 'Answers' or not answers else []) + uses
+            if name == 'Invariants':
+                lines.append(f"use {mod}.Given as goal")
+            else:
+                lines.append(f"use {mod}.Goals as goal")
+                if self.used:
+                    lines.append(f"use {mod}.Goals.{{{', '.join(sorted(self.used))}}}")
+            (folder / f"{name}.antt").write_text('\n'.join(lines) + '\n\n' + '\n\n'.join(parts) + '\n')
+        if not any(folder.iterdir()):
+            folder.rmdir()
+        return self.left
+
+
+def main(names, crate, only):
+    listed = json.loads((pathlib.Path(names) / 'crates' / crate / 'names.json').read_text())
+    root = pathlib.Path('crates', crate, 'proofs')
+    for path in sorted(root.rglob('Proof.antt')):
+        function = '.'.join(path.parent.relative_to(root).parts)
+        if only and function not in only:
+            continue
+        key = f"Rattle-{crate}-proofs.{function}.Lts"
+        if key not in listed:
+            print(f"{function}: no names")
+            continue
+        left = Turned(crate, function, listed[key]).run(path)
+        if left is None:
+            print(f"{function}: a walk by hand")
+        elif left:
+            print(f"{function}: {'; '.join(left)}")
+
+
+main(sys.argv[1], sys.argv[2], set(sys.argv[3:]))
