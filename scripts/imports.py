@@ -11,7 +11,7 @@ GROUP = re.compile(r'^((?:ghost )?use [^\s{};]+?(?:\.|::)\{)([^{}]*)(\};?)$', re
 WHOLE = re.compile(r'^((?:ghost )?use )(\S+?)(?: as (\S+?))?(;?)$', re.M)
 PUBLIC = re.compile(r'^pub use [^\n{]*(?:\{[^{}]*\})?;?$', re.M)
 PART = '[^\\s(){}\\[\\],;.λ&*!:]'
-TRAITS = {'Read', 'Write', 'BufRead', 'Seek', 'Debug', 'Display'}
+TRAITS = {'Read', 'Write', 'BufRead', 'Seek', 'Env', 'Debug', 'Display'}
 
 
 def body(text, comment):
