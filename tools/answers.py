@@ -1,5 +1,6 @@
 #!/usr/bin/env python3
-"""Turns the proofs of an older Rattle, walks in proofs/F/Proof.antt, into today's files: proofs/F/Invariants.antt and proofs/F/Answers.antt.
+"""Turns the proofs of an older Rattle, walks in proofs/F/Proof.antt, into today's: proofs/F/Invariants.antt and proofs/F/Answers.antt. A proof with lemmas over
+places of the code stays a Proof.antt, under today's names.
 
     python3 tools/answers.py NAMES CRATE [MODULE.FUNCTION ..]
 
@@ -92,8 +93,12 @@ class Turned:
     # ---- paths
 
     def clause(self, names, rest):
-        """Names the clause that a nested tuple's index reads."""
-        if len(names) < 2 or not rest or not rest[0].isdigit():
+        """Names the clause that a nested tuple's index reads; a walk reads the tuple itself."""
+        if self.walks:
+            return rest
+        if len(names) == 1:
+            return [names[0]] + (rest[1:] if rest[:1] == names else rest)
+        if not names or not rest or not rest[0].isdigit():
             return rest
         k, at = 0, 0
         while at < len(rest) and rest[at] == '1' and k < len(names) - 1:
@@ -110,10 +115,14 @@ class Turned:
         while i < len(parts):
             p, rest = parts[i], parts[i + 1:]
             if p == 'before':
-                if any(q != 'before' for q in rest):
+                if not self.walks and any(q != 'before' for q in rest):
                     i += 1
                     continue
                 out.append(p)
+            elif p == 'fits' and rest and rest[0] != 'sfits':
+                out.append('ranges')
+            elif p in ('inv', 'type-inv'):
+                out.append({'inv': 'invariant'}.get(p, 'type_inv'))
             elif p in ('taken', 'left', 'true', 'false', 'fact'):
                 key = norm(parts[i - 1]) if i else ''
                 now = {'taken': 'true', 'left': 'false'}.get(p, p)
@@ -156,7 +165,7 @@ class Turned:
             return '.'.join([var] + self.path(rest))
 
         def line(text):
-            return re.sub(r"(?<![\w.'-])(%s|\))((?:\.[\w'-]+)+)" % WORD, turn, text)
+            return re.sub(r"((?<![\w.'-])%s|\))((?:\.[\w'-]+)+)" % WORD, turn, text)
 
         out = []
         for row in text.split('\n'):
@@ -181,16 +190,15 @@ class Turned:
                 self.left.append('place ' + m[1])
                 return m[0]
             self.used.add(place)
-            return place
+            return 'tie.' + place + m[2] if self.walks else place
 
-        text = re.sub(r"tie\.([A-Z][\w'-]*)((?: +(?:invariant|decreases)-[\w-]+)*)", turn, text)
-        return text
+        return re.sub(r"tie\.([A-Z][\w'-]*)((?: +(?:invariant|decreases)-[\w-]+)*)", turn, text)
 
     # ---- answers
 
     def record(self, body, names):
         """A tuple at the end of an answer, as a record by the names of the clauses."""
-        if len(names) < 2:
+        if len(names) < 2 or self.walks:
             return body
         text = body.rstrip()
         if not text.endswith(')'):
@@ -228,12 +236,77 @@ class Turned:
             parts = parts[:-1] + self.tuple(last, n - len(parts) + 1)
         return parts
 
+    def goal(self, need):
+        return self.needs.get(need) or self.needs.get(re.sub(r'^(overflow|slice)-', '', need)) or self.needs.get(need.replace('overflow-', ''))
+
+    def split(self, name, code):
+        """A declaration's `unfolding` line, its parameters and its body."""
+        eq = '\n'.join(code[1:])
+        unf = re.match(r"(unfolding [^\n]*)\n", eq)
+        if unf:
+            eq = eq[unf.end():]
+        e = re.match(re.escape(name) + r"((?: \S+)*?) =(?=[ \n])", eq)
+        return (unf and unf[1], e and e[1].split(), e and eq[e.end():])
+
+    def asked(self, new):
+        return self.names['asked'].get(new) or (self.ensures if new.startswith('returns') and len(self.ensures) > 1 else [])
+
+    def answer(self, new, body):
+        """An answer's body, in today's names."""
+        where = re.search(r"\n  where\n", body)
+        tail = body[where.start():] if where else ''
+        main = self.record(self.term(body[:where.start()] if where else body), self.asked(new))
+        return main + (self.types(self.term(tail)) if tail else '')
+
+    def walk(self, path, head, decls):
+        """A proof with lemmas over places, under today's names."""
+        out, have, first, loops = [], {}, [], ''
+        for b in decls:
+            code, notes = [l for l in b if not l.startswith('--')], [l for l in b if l.startswith('--')]
+            whole = '\n'.join(code)
+            close = re.search(r"tie\.spec\s+(.*?)\)\s*$", whole, re.S)
+            if 'tie.close' in whole:
+                first = [w for w in close[1].split() if re.match('(invariant|decreases)-', w)]
+                continue
+            m = re.match(r"((?:abbrev |pub )*)(\S+) : tie\.(invariant|decreases)-([\w-]+)", whole) if code else None
+            if m:
+                out.append('\n'.join(notes + [f"{m[1]}{m[2]} : tie.{m[3]}-{self.fields[norm(m[4])]}"] + code[1:]))
+                continue
+            m = re.match(r"(?:pub )?(\S+) : tie\.Need-(\S+)([^\n]*)", whole) if code else None
+            if m:
+                new = self.goal(norm(m[2]))
+                unfolding, pars, body = self.split(m[1], code)
+                if not new or pars is None:
+                    self.left.append('goal ' + m[2])
+                    out.append('\n'.join(['-- LEFT: no such goal: ' + m[2]] + ['-- ' + l for l in b]))
+                    continue
+                have[new], loops = m[1], m[3]
+                out.append('\n'.join(notes + [f"{m[1]} : tie.Need-{new}{m[3]}"] + ([unfolding] if unfolding else []) + [f"{m[1]} {' '.join(pars)} =" + self.answer(new, body)]))
+                continue
+            out.append('\n'.join(notes + [self.types(self.term(whole))]))
+        name = self.function.split('.')[-1]
+        for _, new in self.names['needs']:
+            if new not in have:
+                self.left.append('new goal ' + new)
+                have[new] = new
+                out.append(f"{new} : tie.Need-{new}{loops}\n{new} c{' κs' if new.endswith('-requires') else ''} = search rules")
+        said = ' '.join(first + [have[new] for _, new in self.names['needs']])
+        out.append(f"pub {name}_spec : {{M : Type 1}} → statement M\n{name}_spec = tie.close (tie.spec {said})")
+        if 'search rules' in '\n'.join(out) and not any('rules' in l for l in head):
+            head = [l for l in head if l.strip()] + ['use borrow.Author.Rules.{rules}']
+        path.write_text('\n'.join(l for l in head if l.strip()) + '\n\n' + '\n\n'.join(out) + '\n')
+        return self.left
+
     def run(self, path):
         text = path.read_text()
         if 'as tie' not in text:
             return None
         head, decls = blocks(text)
         self.used = set()
+        self.walks = any(re.match(r"(?:abbrev |pub )*\S+ :.*tie\.(?!Need-|invariant-|decreases-|close)", '\n'.join(l for l in b if not l.startswith('--')), re.S)
+                         for b in decls if 'tie.close' not in '\n'.join(b))
+        if self.walks:
+            return self.walk(path, head, decls)
         invariants, answers, inv_words = [], [], set()
         loops = {norm(o): (new, vs, ch) for ((o, new), vs), ch in zip(self.names['loops'], self.names['changed'] or [[]] * 9)}
         for b in decls:
@@ -285,35 +358,20 @@ class Turned:
                 continue
             m = re.match(r"(?:pub )?(\S+) : tie\.Need-(\S+)", sig)
             if m:
-                name, need = m[1], norm(m[2])
-                new = self.needs.get(need) or self.needs.get(re.sub(r'^(overflow|slice)-', '', need)) or self.needs.get(need.replace('overflow-', ''))
-                eq = '\n'.join(code[1:])
-                unf = re.match(r"(unfolding [^\n]*)\n", eq)
-                if unf:
-                    eq = eq[unf.end():]
-                e = re.match(re.escape(name) + r"((?: \S+)*?) =[ \n]", eq)
-                if not e:
+                name, new = m[1], self.goal(norm(m[2]))
+                unfolding, pars, body = self.split(name, code)
+                if pars is None:
                     self.left.append('answer ' + name + ': its form')
                     answers.append('\n'.join(['-- LEFT: ' + name] + ['-- ' + l for l in code]))
                     continue
-                body = eq[e.end():]
                 if not new:
                     self.left.append('goal ' + m[2])
                     new = name
                     notes = notes + ['-- LEFT: no such goal: ' + m[2]]
-                if re.fullmatch(r"\s*search (rules|needs)\s*", body) or re.fullmatch(r"\s*omega arith\s*", body):
+                if re.fullmatch(r"\s*(search (rules|needs)|omega arith)\s*", body):
                     continue
-                where = re.search(r"\n  where\n", body)
-                tail = body[where.start():] if where else ''
-                main = body[:where.start()] if where else body
-                names = self.names['asked'].get(new) or (self.ensures if new.startswith('returns') and len(self.ensures) > 1 else [])
-                main = self.record(self.term(main), names)
-                if tail:
-                    tail = self.types(self.term(tail))
-                params = e[1].split()
-                pars = [q for q in params if q != 'κs']
-                start = ' ' if not main.startswith(('\n', ' ')) else ('\n' if not main.startswith('\n') else '')
-                answers.append('\n'.join(notes + [f"pub {new} : goal.{new}"] + ([unf[1]] if unf else []) + [f"{new} {' '.join(pars)} =" + start + main + tail]))
+                params = ' '.join(q for q in pars if q != 'κs')
+                answers.append('\n'.join(notes + [f"pub {new} : goal.{new}"] + ([unfolding] if unfolding else []) + [f"{new} {params} =" + self.answer(new, body)]))
                 continue
             answers.append('\n'.join(notes + [self.types(self.term(whole))]))
         mod = f"Rattle.{self.crate}.proofs.{self.function}"

@@ -11,32 +11,32 @@ use Rattle.bounds.proofs.is_tighter.Statement.{statement}
 use Rattle.bounds.proofs.is_tighter.Tie as tie
 
 -- the tests, of the values themselves
-above : (t : Bool) (c : tie.After-struct-told2) → let s = c.before.before in
+above : (t : Bool) (c : tie.After-struct_told-2-1) → let s = c.before.before in
     lt_z (to_z w64 (of_z w64 s.args.a.value)) (to_z w64 (of_z w64 s.args.b.value)) ≡ t → lt_z s.args.a.value s.args.b.value ≡ t
 above t c e =
     let s = c.before.before in
-    told w64 s.args.a.value s.args.b.value t c.before.struct_told.given.1.0.1 c.struct-told2.given.1.0.1 e
+    told w64 s.args.a.value s.args.b.value t c.before.struct_told-1.given.1.0.1 c.struct_told-2-1.given.1.0.1 e
 
-below : (t : Bool) (c : tie.After-struct-told2) → let s = c.before.before in
+below : (t : Bool) (c : tie.After-struct_told-2-1) → let s = c.before.before in
     lt_z (to_z w64 (of_z w64 s.args.b.value)) (to_z w64 (of_z w64 s.args.a.value)) ≡ t → lt_z s.args.b.value s.args.a.value ≡ t
 below t c e =
     let s = c.before.before in
-    told w64 s.args.b.value s.args.a.value t c.struct-told2.given.1.0.1 c.before.struct_told.given.1.0.1 e
+    told w64 s.args.b.value s.args.a.value t c.struct_told-2-1.given.1.0.1 c.before.struct_told-1.given.1.0.1 e
 
-returns : tie.Need-returns
-returns c = tighter-by-value _ _ (above true c.before c.if1.true)
+returns : tie.Need-returns-then-x-y
+returns c = tighter-by-value _ _ (above true c.before c.if-x-y.true)
 
-returns-2 : tie.Need-returns-2
-returns-2 c = not-tighter-by-value _ _ (above false c.before.before c.before.if1.false) (below true c.before.before c.if2.true)
+returns-2 : tie.Need-returns-then-y-x
+returns-2 c = not-tighter-by-value _ _ (above false c.before.before c.before.if-x-y.false) (below true c.before.before c.if-y-x.true)
 
-comes-before-requires : tie.Need-comes-before-requires
+comes-before-requires : tie.Need-comes_before-requires
 comes-before-requires c κs = search rules
 
-returns-3 : tie.Need-returns-3
+returns-3 : tie.Need-returns
 returns-3 c =
     let at-struct-told2 = c.before.before.before in
-    c.comes-before.ensures
-    ∙ tighter-of-equal _ _ (above false (at-struct-told2) c.before.before.if1.false) (below false (at-struct-told2) c.before.if2.false)
+    c.comes_before.ensures
+    ∙ tighter-of-equal _ _ (above false (at-struct-told2) c.before.before.if-x-y.false) (below false (at-struct-told2) c.before.if-y-x.false)
 
-pub is-tighter-spec : {M : Type 1} → statement M
-is-tighter-spec = tie.close (tie.spec returns returns-2 comes-before-requires returns-3)
+pub is_tighter_spec : {M : Type 1} → statement M
+is_tighter_spec = tie.close (tie.spec returns returns-2 comes-before-requires returns-3)

@@ -11,24 +11,23 @@ use borrow.Author.Rules.{rules}
 use Rattle.c_column.proofs.loftsplice_diff_step.Statement.{statement}
 use Rattle.c_column.proofs.loftsplice_diff_step.Tie as tie
 
-told : (c : tie.After-diff-step) → says_difference c.diff_step.result ≡ diff_step_of c.before.args.previous c.before.args.current
-told c = rw (to_z-of_z c.before.ranges.previous, to_z-of_z c.before.ranges.current) at c.diff_step.ensures
+told : (c : tie.After-diff_step-answer) → says_difference c.diff_step-answer.result ≡ diff_step_of c.before.args.previous c.before.args.current
+told c = rw (to_z-of_z c.before.ranges.previous, to_z-of_z c.before.ranges.current) at c.diff_step-answer.ensures
 
-diff-step-requires : tie.Need-diff-step-requires
+diff-step-requires : tie.Need-diff_step-answer-requires
 diff-step-requires c κs = search rules
 
-enum-known-answer : tie.Need-enum-known-answer
+enum-known-answer : tie.Need-enum_known-answer
 enum-known-answer c = search rules
 
-enum_told : tie.Need-enum-told
+enum_told : tie.Need-enum_told-1
 enum_told c = search rules
 
-returns : tie.Need-returns
-returns c = rw (back w16 _ c.known-told.given.0.1) (carried says_difference flat_difference (told c.before.before.before) c.before.answer.given.1)
+returns : tie.Need-returns-in-Step
+returns c = rw (back w16 _ c.known_told-1.given.0.1) (carried says_difference flat_difference (told c.before.before.before) c.before.in-Step.is)
 
-returns-2 : tie.Need-returns-2
-returns-2 c = carried says_difference flat_difference (told c.before.before) c.enum_told.given.1
+returns-2 : tie.Need-returns-in-None
+returns-2 c = carried says_difference flat_difference (told c.before.before) c.in-None.is
 
-pub loftsplice-diff-step-spec : {M : Type 1} → statement M
-loftsplice-diff-step-spec =
-    tie.close (tie.spec diff-step-requires enum-known-answer enum_told returns returns-2)
+pub loftsplice_diff_step_spec : {M : Type 1} → statement M
+loftsplice_diff_step_spec = tie.close (tie.spec diff-step-requires enum-known-answer enum_told returns returns-2)

@@ -6,40 +6,40 @@ use Rattle.c_filter_runs.proofs.loftsplice_filter_seek_run.Statement.{statement}
 use Rattle.c_filter_runs.proofs.loftsplice_filter_seek_run.Tie as tie
 
 -- the start, which lies before what is known of the six lists
-abbrev start : tie.After-is-call → tie.Start
+abbrev start : tie.After-is_call → tie.Start
 start c =
     let known-fourth = c.before.before.before in
     let known-first = known-fourth.before.before.before in
     known-first.before
 
-is-call-requires : tie.Need-is-call-requires
+is-call-requires : tie.Need-is_call-requires
 is-call-requires c κs = search rules
 
-variables-of-requires : tie.Need-variables-of-requires
+variables-of-requires : tie.Need-variables_of-lower-requires
 variables-of-requires c κs = search rules
 
-variables-of-requires-2 : tie.Need-variables-of-requires-2
+variables-of-requires-2 : tie.Need-variables_of-upper-requires
 variables-of-requires-2 c κs = search rules
 
-inputs-of-requires : tie.Need-inputs-of-requires
+inputs-of-requires : tie.Need-inputs_of-inputs-requires
 inputs-of-requires c κs = search rules
 
-filter-of-requires : tie.Need-filter-of-requires
+filter-of-requires : tie.Need-filter_of-asked-requires
 filter-of-requires c κs = search rules
 
-seek-run-requires : tie.Need-seek-run-requires
+seek-run-requires : tie.Need-seek_run-ran-requires
 seek-run-requires c κs = search rules
 
-flat-filter-ran-requires : tie.Need-flat-filter-ran-requires
+flat-filter-ran-requires : tie.Need-flat_filter_ran-requires
 flat-filter-ran-requires c κs = search rules
 
-bad-filter-run-requires : tie.Need-bad-filter-run-requires
+bad-filter-run-requires : tie.Need-bad_filter_run-requires
 bad-filter-run-requires c κs = search rules
 
-same_length : tie.Need-same-length
+same_length : tie.Need-shape_of-out
 same_length c = search rules
 
-returns : tie.Need-returns
+returns : tie.Need-returns-then-is_call
 returns c =
     let at_call = c.before.before in
     let at-filter = at_call.before.before in
@@ -48,30 +48,17 @@ returns c =
     let at-lower = at-upper.before in
     let at_test = at-lower.before in
     let s = start at_test.before in
-    let good = sym at_test.before.is_call.ensures ∙ at_test.if1.true in (
-      called s.args.filter _ good at-filter.filter-of.ensures at-lower.variables-of.ensures at-upper.variables-of2.ensures at-inputs.inputs-of.ensures _ at_call.seek-run.ensures.0 c.flat-filter-ran.ensures,
-      left s.args.filter _ good at-filter.filter-of.ensures at-lower.variables-of.ensures at-upper.variables-of2.ensures at-inputs.inputs-of.ensures _ _ at_call.seek-run.ensures.1,
+    let good = sym at_test.before.is_call.ensures ∙ at_test.if-is_call.true in (
+      called s.args.filter _ good at-filter.filter_of-asked.ensures at-lower.variables_of-lower.ensures at-upper.variables_of-upper.ensures at-inputs.inputs_of-inputs.ensures _ at_call.seek_run-ran.ensures.0 c.flat_filter_ran.ensures,
+      left s.args.filter _ good at-filter.filter_of-asked.ensures at-lower.variables_of-lower.ensures at-upper.variables_of-upper.ensures at-inputs.inputs_of-inputs.ensures _ _ at_call.seek_run-ran.ensures.1,
     )
 
-returns-2 : tie.Need-returns-2
+returns-2 : tie.Need-returns-else-is_call
 returns-2 c =
     let at_test = c.before in
     let s = start at_test.before in
-    let bad = sym at_test.before.is_call.ensures ∙ at_test.if1.false in
-    (not-called s.args.filter _ bad _ c.bad-filter-run.ensures, not_left s.args.filter _ bad _ _)
+    let bad = sym at_test.before.is_call.ensures ∙ at_test.if-is_call.false in
+    (not-called s.args.filter _ bad _ c.bad_filter_run.ensures, not_left s.args.filter _ bad _ _)
 
-pub loftsplice-filter-seek-run-spec : {M : Type 1} → statement M
-loftsplice-filter-seek-run-spec =
-    tie.close
-    (tie.spec
-    is-call-requires
-    variables-of-requires
-    variables-of-requires-2
-    inputs-of-requires
-    filter-of-requires
-    seek-run-requires
-    flat-filter-ran-requires
-    bad-filter-run-requires
-    same_length
-    returns
-    returns-2)
+pub loftsplice_filter_seek_run_spec : {M : Type 1} → statement M
+loftsplice_filter_seek_run_spec = tie.close (tie.spec is-call-requires variables-of-requires variables-of-requires-2 inputs-of-requires filter-of-requires seek-run-requires flat-filter-ran-requires bad-filter-run-requires same_length returns returns-2)

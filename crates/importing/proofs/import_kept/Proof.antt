@@ -21,121 +21,121 @@ abbrev values : tie.Start → List ℤ
 values s = present_in s.args.bytes.now s.args.count
 
 abbrev starts : tie.Start → ℕ
-starts s = length s.args.starts.now
+starts s = length s.args.starts-1.now
 
 abbrev ends : tie.Start → ℕ
-ends s = length s.args.ends.now
+ends s = length s.args.ends-1.now
 
 abbrev steps : tie.Start → ℕ
-steps s = length s.args.steps.now
+steps s = length s.args.steps-1.now
 
-abbrev begin : tie.After-slice-known → tie.Start
+abbrev begin : tie.After-slice_known-1 → tie.Start
 begin c = c.before.before
 
 -- behind the runs
-module _ (c : tie.After-slice-known3) where
-  abbrev k : tie.After-find-runs
+module _ (c : tie.After-slice_known-3-1) where
+  abbrev k : tie.After-find_runs-n
   k = c.before.before
 
   abbrev st : tie.Start
   st = begin k.before.before.before
 
   abbrev n : ℕ
-  n = k.find_runs.result
+  n = k.find_runs-n.result
 
-find-runs-requires : tie.Need-find-runs-requires
+find-runs-requires : tie.Need-find_runs-n-requires
 find-runs-requires c κs = search rules
 
-same_length : tie.Need-same-length
+same_length : tie.Need-shape_of-kept-then-n-gt4096
 same_length c = search rules
 
-returns : tie.Need-returns
+returns : tie.Need-returns-then-n-gt4096
 returns c =
     let a = c.before in
     let s = st a in
-    (import-many s.args.bytes.now s.args.count (starts s) (ends s) (steps s) s.pre.0 s.pre.1 (n a) (k a).find_runs.ensures.0 c.if1.true, (refl, (refl, refl)))
+    (import-many s.args.bytes.now s.args.count (starts s) (ends s) (steps s) s.pre.0 s.pre.1 (n a) (k a).find_runs-n.ensures.0 c.if-n-gt4096.true, (refl, (refl, refl)))
 
-same-length-2 : tie.Need-same-length-2
+same-length-2 : tie.Need-shape_of-kept-then-starts-n
 same-length-2 c = search rules
 
-returns-2 : tie.Need-returns-2
+returns-2 : tie.Need-returns-then-starts-n
 returns-2 c =
     let a = c.before.before in
     let s = st a in
-    (import-starts s.args.bytes.now s.args.count (starts s) (ends s) (steps s) s.pre.0 s.pre.1 (n a) (k a).find_runs.ensures.0 c.before.if1.false c.if2.true, (refl, (refl, refl)))
+    (import-starts s.args.bytes.now s.args.count (starts s) (ends s) (steps s) s.pre.0 s.pre.1 (n a) (k a).find_runs-n.ensures.0 c.before.if-n-gt4096.false c.if-starts-n.true, (refl, (refl, refl)))
 
-same-length-3 : tie.Need-same-length-3
+same-length-3 : tie.Need-shape_of-kept-then-ends-n
 same-length-3 c = search rules
 
-returns-3 : tie.Need-returns-3
+returns-3 : tie.Need-returns-then-ends-n
 returns-3 c =
     let a = c.before.before.before in
     let s = st a in
-    (import-ends s.args.bytes.now s.args.count (starts s) (ends s) (steps s) s.pre.0 s.pre.1 (n a) (k a).find_runs.ensures.0 c.before.before.if1.false c.before.if2.false c.if3.true, (refl, (refl, refl)))
+    (import-ends s.args.bytes.now s.args.count (starts s) (ends s) (steps s) s.pre.0 s.pre.1 (n a) (k a).find_runs-n.ensures.0 c.before.before.if-n-gt4096.false c.before.if-starts-n.false c.if-ends-n.true, (refl, (refl, refl)))
 
-same-length-4 : tie.Need-same-length-4
+same-length-4 : tie.Need-shape_of-kept-then-steps-n
 same-length-4 c = search rules
 
-returns-4 : tie.Need-returns-4
+returns-4 : tie.Need-returns-then-steps-n
 returns-4 c =
     let few = c.before.before.before in
     let a = few.before in
     let s = st a in
-    (import-steps s.args.bytes.now s.args.count (starts s) (ends s) (steps s) s.pre.0 s.pre.1 (n a) (k a).find_runs.ensures.0 few.if1.false c.before.before.if2.false c.before.if3.false c.if4.true, (refl, (refl, refl)))
+    (import-steps s.args.bytes.now s.args.count (starts s) (ends s) (steps s) s.pre.0 s.pre.1 (n a) (k a).find_runs-n.ensures.0 few.if-n-gt4096.false c.before.before.if-starts-n.false c.before.if-ends-n.false c.if-steps-n.true, (refl, (refl, refl)))
 
 -- behind all tests
-module _ (c : tie.Else4) where
-  abbrev few-runs : tie.Else1
+module _ (c : tie.Else-steps-n) where
+  abbrev few-runs : tie.Else-n-gt4096
   few-runs = c.before.before.before
 
-  abbrev found : tie.After-slice-known3
+  abbrev found : tie.After-slice_known-3-1
   found = few-runs.before
 
   abbrev s : tie.Start
   s = st found
 
-  is-count : (k found).find_runs.result ≡ length (runs_of (values (st found)))
-  is-count = count-is s.args.bytes.now s.args.count (starts s) (ends s) (steps s) s.pre.0 s.pre.1 (n found) (k found).find_runs.ensures.0 few-runs.if1.left
+  is-count : (k found).find_runs-n.result ≡ length (runs_of (values (st found)))
+  is-count = count-is s.args.bytes.now s.args.count (starts s) (ends s) (steps s) s.pre.0 s.pre.1 (n found) (k found).find_runs-n.ensures.0 few-runs.if-n-gt4096.false
 
   accepted : (ones : ℕ) → ones ≡ count_for (present s.args.bytes.now) 0 s.args.count
       → Gives (record { runs = n found; ones = ones }) ≡ import_of s.args.bytes.now s.args.count (starts s) (ends s) (steps s)
-  accepted ones e = import-fine s.args.bytes.now s.args.count (starts s) (ends s) (steps s) s.pre.0 s.pre.1 (n found) (k found).find_runs.ensures.0 few-runs.if1.left ones e
-      c.before.before.if2.false c.before.if3.false c.if4.false
+  accepted ones e = import-fine s.args.bytes.now s.args.count (starts s) (ends s) (steps s) s.pre.0 s.pre.1 (n found) (k found).find_runs-n.ensures.0 few-runs.if-n-gt4096.false ones e
+      c.before.before.if-starts-n.false c.before.if-ends-n.false c.if-steps-n.false
 
-same-length-5 : tie.Need-same-length-5
+same-length-5 : tie.Need-shape_of-kept-then-n-eq0
 same-length-5 c = search rules
 
-returns-5 : tie.Need-returns-5
+returns-5 : tie.Need-returns-then-n-eq0
 returns-5 c =
     let e = c.before in
-    let h = sym c.if5.true ∙ is-count e in
-    (accepted e 0 (none-counted (s e).args.bytes.now (s e).args.count h), (starts-stay (values (s e)) h (s e).args.starts.now, (ends_stay (values (s e)) h (s e).args.ends.now, steps-stay (values (s e)) h (s e).args.steps.now)))
+    let h = sym c.if-n-eq0.true ∙ is-count e in
+    (accepted e 0 (none-counted (s e).args.bytes.now (s e).args.count h), (starts-stay (values (s e)) h (s e).args.starts-1.now, (ends_stay (values (s e)) h (s e).args.ends-1.now, steps-stay (values (s e)) h (s e).args.steps-1.now)))
 
-abbrev all : tie.After-write-runs-arg → tie.Else4
+abbrev all : tie.After-write_runs-arg-1 → tie.Else-steps-n
 all c = c.before.before
 
-write-runs-requires : tie.Need-write-runs-requires
+write-runs-requires : tie.Need-write_runs-requires
 write-runs-requires c κs =
     let e = all c.before.before.before in
     let m = is-count e in
-    ((m, (few-runs e).if1.left, (k (found e)).find_runs.ensures.1 (few-runs e).if1.left), (omega (arith, m, e.before.before.if2.left), omega (arith, m, e.before.if3.left), omega (arith, m, e.if4.left)))
+    ((m, (few-runs e).if-n-gt4096.false, (k (found e)).find_runs-n.ensures.1 (few-runs e).if-n-gt4096.false), (omega (arith, m, e.before.before.if-starts-n.false), omega (arith, m, e.before.if-ends-n.false), omega (arith, m, e.if-steps-n.false)))
 
-count-present-requires : tie.Need-count-present-requires
+count-present-requires : tie.Need-count_present-ones-requires
 count-present-requires c κs = search rules
 
-same-length-6 : tie.Need-same-length-6
+same-length-6 : tie.Need-shape_of-starts
 same-length-6 c = search rules
 
-same-length-7 : tie.Need-same-length-7
+same-length-7 : tie.Need-shape_of-ends
 same-length-7 c = search rules
 
-same-length-8 : tie.Need-same-length-8
+same-length-8 : tie.Need-shape_of-steps
 same-length-8 c = search rules
 
-same-length-9 : tie.Need-same-length-9
+same-length-9 : tie.Need-shape_of-kept
 same-length-9 c = search rules
 
-returns-6 : tie.Need-returns-6
+returns-6 : tie.Need-returns
 returns-6 c =
     let b = c.before.before.before in
     let w = b.before.before in
@@ -143,18 +143,15 @@ returns-6 c =
     let e = all arg.before in
     let m = is-count e in
     let col = imported_column (s e).args.bytes.now (s e).args.count in
-    let l1 : length col.starts ≤ starts (s e) = omega (arith, length-map (runs_of (values (s e))) (λ (r : Run). r.start), m, e.before.before.if2.left) in
-    let l2 : length col.ends ≤ ends (s e) = omega (arith, runs-are (runs_of (values (s e))), m, e.before.if3.left) in
-    let l3 : length col.steps ≤ steps (s e) = omega (arith, length-map (runs_of (values (s e))) (λ (r : Run). r.step), m, e.if4.left) in (
-      accepted e c.count-present.result c.count-present.ensures,
+    let l1 : length col.starts-1 ≤ starts (s e) = omega (arith, length-map (runs_of (values (s e))) (λ (r : Run). r.start), m, e.before.before.if-starts-n.false) in
+    let l2 : length col.ends-1 ≤ ends (s e) = omega (arith, runs-are (runs_of (values (s e))), m, e.before.if-ends-n.false) in
+    let l3 : length col.steps-1 ≤ steps (s e) = omega (arith, length-map (runs_of (values (s e))) (λ (r : Run). r.step), m, e.if-steps-n.false) in (
+      accepted e c.count_present-ones.result c.count_present-ones.ensures,
       (
-        w.write-runs.ensures.0 ∙ filled col.starts (s e).args.starts.now l1,
-        (w.write-runs.ensures.1.0 ∙ filled col.ends (s e).args.ends.now l2, w.write-runs.ensures.1.1 ∙ filled col.steps (s e).args.steps.now l3),
+        w.write_runs.ensures.0 ∙ filled col.starts-1 (s e).args.starts-1.now l1,
+        (w.write_runs.ensures.1.0 ∙ filled col.ends-1 (s e).args.ends-1.now l2, w.write_runs.ensures.1.1 ∙ filled col.steps-1 (s e).args.steps-1.now l3),
       ),
     )
 
-pub import-kept-spec : {M : Type 1} → statement M
-import-kept-spec =
-    tie.close
-    (tie.spec find-runs-requires same_length returns same-length-2 returns-2 same-length-3 returns-3 same-length-4 returns-4 same-length-5 returns-5 write-runs-requires count-present-requires
-    same-length-6 same-length-7 same-length-8 same-length-9 returns-6)
+pub import_kept_spec : {M : Type 1} → statement M
+import_kept_spec = tie.close (tie.spec find-runs-requires same_length returns same-length-2 returns-2 same-length-3 returns-3 same-length-4 returns-4 same-length-5 returns-5 write-runs-requires count-present-requires same-length-6 same-length-7 same-length-8 same-length-9 returns-6)

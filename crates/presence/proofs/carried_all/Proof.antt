@@ -16,10 +16,10 @@ use borrow.Author.Rules.{rules}
 use Rattle.presence.proofs.carried_all.Statement.{statement}
 use Rattle.presence.proofs.carried_all.Tie as tie
 
-abbrev invariant-loop : tie.invariant-loop
+abbrev invariant-loop : tie.invariant-loop-why
 invariant-loop starts ends steps numbers flags₀ i₀ flags i = Done (source_of (column_of starts ends steps)) numbers flags₀ i flags
 
-abbrev decreases-loop : tie.decreases-loop
+abbrev decreases-loop : tie.decreases-loop-why
 decreases-loop starts ends steps numbers flags₀ i₀ flags i = length numbers - i
 
 module _ (s : tie.Start invariant-loop decreases-loop) where
@@ -30,83 +30,89 @@ module _ (s : tie.Start invariant-loop decreases-loop) where
   ks = s.args.numbers.now
 
   abbrev old : List ℕ
-  old = s.args.flags.now
+  old = s.args.flags-1.now
 
-abbrev start : tie.At-loop invariant-loop decreases-loop → tie.Start invariant-loop decreases-loop
+abbrev start : tie.At-loop-why invariant-loop decreases-loop → tie.Start invariant-loop decreases-loop
 start l = l.before.before.before
 
-long : (l : tie.At-loop invariant-loop decreases-loop) → length l.loop.flags ≡ length (old (start l))
-long l = let s = start l in done-long (p s) (ks s) (old s) s.pre l.loop.i l.loop.flags l.loop.invariant
+long : (l : tie.At-loop-why invariant-loop decreases-loop) → length l.loop-why.flags-1 ≡ length (old (start l))
+long l = let s = start l in done-long (p s) (ks s) (old s) s.pre l.loop-why.i l.loop-why.flags-1 l.loop-why.invariant
 
-loop-holds : tie.Need-loop-init invariant-loop decreases-loop
+loop-holds : tie.Need-loop-why-init invariant-loop decreases-loop
 loop-holds c = let s = c.before.before in done-start (p s) (ks s) (old s) s.requires
 
-mul-stretch : tie.Need-overflow-mul-stretch invariant-loop decreases-loop
+mul-stretch : tie.Need-offset_bounds-numbers-i invariant-loop decreases-loop
 mul-stretch c = search rules
 
-sub-stretch : tie.Need-overflow-sub-stretch invariant-loop decreases-loop
-sub-stretch c = omega (arith, c.loop.invariant.inside)
+sub-stretch : tie.Need-slice_bounds-stretch-count invariant-loop decreases-loop
+sub-stretch c = omega (arith, c.loop-why.invariant.inside)
 
-part-stretch-start : tie.Need-slice-bounds-stretch-start invariant-loop decreases-loop
-part-stretch-start c = omega (arith, c.loop.invariant.inside)
+-- LEFT: no such goal: slice-bounds-stretch-start
+-- part-stretch-start : tie.Need-slice-bounds-stretch-start invariant-loop decreases-loop
+-- part-stretch-start c = omega (arith, c.loop.invariant.inside)
 
-part-stretch-end : tie.Need-slice-bounds-stretch-end invariant-loop decreases-loop
-part-stretch-end c = search rules
+-- LEFT: no such goal: slice-bounds-stretch-end
+-- part-stretch-end : tie.Need-slice-bounds-stretch-end invariant-loop decreases-loop
+-- part-stretch-end c = search rules
 
-stretch-requires : tie.Need-stretch-requires invariant-loop decreases-loop
+stretch-requires : tie.Need-stretch-n-requires invariant-loop decreases-loop
 stretch-requires c κs = search rules
 
 -- a stretch is known
-module _ (c : tie.After-stretch invariant-loop decreases-loop) where
-  abbrev l : tie.At-loop invariant-loop decreases-loop
+module _ (c : tie.After-stretch-n invariant-loop decreases-loop) where
+  abbrev l : tie.At-loop-why invariant-loop decreases-loop
   l = c.before.before
 
   abbrev s : tie.Start invariant-loop decreases-loop
   s = start l
 
   abbrev n : ℕ
-  n = c.stretch.result
+  n = c.stretch-n.result
 
-  under : l.loop.i + n ≤ length (ks s)
-  under = below (p s) (ks s) (old s) s.pre l.loop.i l.loop.flags l.loop.inv n c.stretch.ensures
+  under : l.loop-why.i + n ≤ length (ks s)
+  under = below (p s) (ks s) (old s) s.pre l.loop-why.i l.loop-why.flags-1 l.loop-why.invariant n c.stretch-n.ensures
 
-add-carried-in : tie.Need-overflow-add-carried-in invariant-loop decreases-loop
+add-carried-in : tie.Need-overflow_add-i invariant-loop decreases-loop
 add-carried-in c = omega (arith, under c, (s c).well-formed)
 
-mul-carried-in : tie.Need-overflow-mul-carried-in invariant-loop decreases-loop
+mul-carried-in : tie.Need-offset_bounds-numbers-i-in-loop-why invariant-loop decreases-loop
 mul-carried-in c = search rules
 
-sub-carried-in : tie.Need-overflow-sub-carried-in invariant-loop decreases-loop
+sub-carried-in : tie.Need-slice_bounds-carried_in-count invariant-loop decreases-loop
 sub-carried-in c = search rules
 
-part-carried-in-start : tie.Need-slice-bounds-carried-in-start invariant-loop decreases-loop
-part-carried-in-start c = search rules
+-- LEFT: no such goal: slice-bounds-carried-in-start
+-- part-carried-in-start : tie.Need-slice-bounds-carried-in-start invariant-loop decreases-loop
+-- part-carried-in-start c = search rules
 
-part-carried-in-end : tie.Need-slice-bounds-carried-in-end invariant-loop decreases-loop
-part-carried-in-end c = omega (arith, under c)
+-- LEFT: no such goal: slice-bounds-carried-in-end
+-- part-carried-in-end : tie.Need-slice-bounds-carried-in-end invariant-loop decreases-loop
+-- part-carried-in-end c = omega (arith, under c)
 
-sub-carried-in-2 : tie.Need-overflow-sub-carried-in-2 invariant-loop decreases-loop
-sub-carried-in-2 c = let st = c.before in omega (arith, (l st).loop.invariant.inside, long (l st), (s st).requires)
+sub-carried-in-2 : tie.Need-slice_bounds-carried_in-count-in-loop-why invariant-loop decreases-loop
+sub-carried-in-2 c = let st = c.before in omega (arith, (l st).loop-why.invariant.inside, long (l st), (s st).requires)
 
-part-carried-in-start-2 : tie.Need-slice-bounds-carried-in-start-2 invariant-loop decreases-loop
-part-carried-in-start-2 c = let st = c.before in omega (arith, (l st).loop.invariant.inside, long (l st), (s st).requires)
+-- LEFT: no such goal: slice-bounds-carried-in-start-2
+-- part-carried-in-start-2 : tie.Need-slice-bounds-carried-in-start-2 invariant-loop decreases-loop
+-- part-carried-in-start-2 c = let st = c.before in omega (arith, (l st).loop.invariant.inside, long (l st), (s st).requires)
 
-part-carried-in-end-2 : tie.Need-slice-bounds-carried-in-end-2 invariant-loop decreases-loop
-part-carried-in-end-2 c = search rules
+-- LEFT: no such goal: slice-bounds-carried-in-end-2
+-- part-carried-in-end-2 : tie.Need-slice-bounds-carried-in-end-2 invariant-loop decreases-loop
+-- part-carried-in-end-2 c = search rules
 
-carried-in-requires : tie.Need-carried-in-requires invariant-loop decreases-loop
+carried-in-requires : tie.Need-carried_in-part-requires invariant-loop decreases-loop
 carried-in-requires c κs =
     let st = c.before.before in
-    let e = st.stretch.ensures in
-    let o = offered (p (s st)) (ks (s st)) (old (s st)) (s st).requires (l st).loop.i (l st).loop.flags (l st).loop.invariant (n st) e in
+    let e = st.stretch-n.ensures in
+    let o = offered (p (s st)) (ks (s st)) (old (s st)) (s st).requires (l st).loop-why.i (l st).loop-why.flags-1 (l st).loop-why.invariant (n st) e in
     ((o.0, o.1), o.2)
 
-enum-known-part : tie.Need-enum-known-part invariant-loop decreases-loop
+enum-known-part : tie.Need-enum_known-part invariant-loop decreases-loop
 enum-known-part c = search rules
 
 -- a stretch is answered
-module _ (c : tie.After-carried-in invariant-loop decreases-loop) where
-  abbrev st : tie.After-stretch invariant-loop decreases-loop
+module _ (c : tie.After-carried_in-part invariant-loop decreases-loop) where
+  abbrev st : tie.After-stretch-n invariant-loop decreases-loop
   st =
       let at_arg = c.before in
       at_arg.before.before
@@ -115,84 +121,74 @@ module _ (c : tie.After-carried-in invariant-loop decreases-loop) where
   s' = s st
 
   abbrev says : Said Word
-  says = says_checked c.carried-in.result
+  says = says_checked c.carried_in-part.result
 
-  turned : Turn (p s') (ks s') (old s') (l st).loop.i (l st).loop.flags (n st) c.carried-in.new.1.1.1.1.0 says
-  turned = turn (p s') (ks s') (old s') s'.pre (l st).loop.i (l st).loop.flags (l st).loop.inv (n st) st.stretch.ensures _ says c.carried-in.ensures.0 c.carried-in.ensures.1
+  turned : Turn (p s') (ks s') (old s') (l st).loop-why.i (l st).loop-why.flags-1 (n st) c.carried_in-part.new.1.1.1.1.0 says
+  turned = turn (p s') (ks s') (old s') s'.pre (l st).loop-why.i (l st).loop-why.flags-1 (l st).loop-why.invariant (n st) st.stretch-n.ensures _ says c.carried_in-part.ensures.0 c.carried_in-part.ensures.1
 
-same_length : tie.Need-same-length invariant-loop decreases-loop
+same_length : tie.Need-shape_of-flags-in-Refused invariant-loop decreases-loop
 same_length c =
     let at_part = c.before in
     let at-flags = at_part.before.before.before in
     let r = at-flags.before in
-    ap length ((turned r).refused _ (ap says_checked at_part.part.given.1))
+    ap length ((turned r).refused _ (ap says_checked at_part.in-Refused.is))
 
-returns : tie.Need-returns invariant-loop decreases-loop
+returns : tie.Need-returns-in-Refused invariant-loop decreases-loop
 returns c =
     let at_part = c.before in
     let at-flags = at_part.before.before.before in
     let r = at-flags.before in
-    let e = ap says_checked at_part.part.given.1 in
+    let e = ap says_checked at_part.in-Refused.is in
     (sym e ∙ (turned r).says, (turned r).refused _ e)
 
-enum_told : tie.Need-enum-told invariant-loop decreases-loop
+enum_told : tie.Need-enum_told-1 invariant-loop decreases-loop
 enum_told c = search rules
 
 -- and it was not refused
-module _ (c : tie.After-enum-told invariant-loop decreases-loop) where
-  abbrev ran : tie.After-carried-in invariant-loop decreases-loop
+module _ (c : tie.In_default invariant-loop decreases-loop) where
+  abbrev ran : tie.After-carried_in-part invariant-loop decreases-loop
   ran =
       let shr_slice_at = c.before.before in
       shr_slice_at.before.before
 
   fine-said : says ran ≡ Gives fine
-  fine-said = ap says_checked c.enum_told.given.1
+  fine-said = ap says_checked c.in_default.is
 
-add-i : tie.Need-overflow-add-i invariant-loop decreases-loop
+add-i : tie.Need-overflow_add-i-in-loop-why invariant-loop decreases-loop
 add-i c = omega (arith, under (st (ran c)), (s' (ran c)).good)
 
-same-length-2 : tie.Need-same-length-2 invariant-loop decreases-loop
+same-length-2 : tie.Need-shape_of-flags-then-i-numbers invariant-loop decreases-loop
 same-length-2 c = let t = c.before in (turned (ran t)).long (fine-said t)
 
-returns-2 : tie.Need-returns-2 invariant-loop decreases-loop
-returns-2 c = let t = c.before in (sym (fine-said t) ∙ (turned (ran t)).says, (turned (ran t)).all (fine-said t) c.if1.true)
+returns-2 : tie.Need-returns-then-i-numbers invariant-loop decreases-loop
+returns-2 c = let t = c.before in (sym (fine-said t) ∙ (turned (ran t)).says, (turned (ran t)).all (fine-said t) c.if-i-numbers.true)
 
-loop-less : tie.Need-loop-smaller invariant-loop decreases-loop
+loop-less : tie.Need-loop-why-smaller invariant-loop decreases-loop
 loop-less c =
     let t = c.before in
-    let more = (turned (ran t)).more c.if1.false in
+    let more = (turned (ran t)).more c.if-i-numbers.false in
     omega (arith, under (st (ran t)), more)
 
-loop-again : tie.Need-loop-preserved invariant-loop decreases-loop
+loop-again : tie.Need-loop-why-preserved invariant-loop decreases-loop
 loop-again c = let t = c.before in (turned (ran t)).done (fine-said t)
 
-pub carried-all-spec : {M : Type 1} → statement M
-carried-all-spec =
-    tie.close
-    (tie.spec
-    invariant-loop
-    decreases-loop
-    loop-holds
-    mul-stretch
-    sub-stretch
-    part-stretch-start
-    part-stretch-end
-    stretch-requires
-    add-carried-in
-    mul-carried-in
-    sub-carried-in
-    part-carried-in-start
-    part-carried-in-end
-    sub-carried-in-2
-    part-carried-in-start-2
-    part-carried-in-end-2
-    carried-in-requires
-    enum-known-part
-    same_length
-    returns
-    enum_told
-    add-i
-    same-length-2
-    returns-2
-    loop-less
-    loop-again)
+slice_bounds-stretch-start : tie.Need-slice_bounds-stretch-start invariant-loop decreases-loop
+slice_bounds-stretch-start c = search rules
+
+slice_bounds-stretch-end : tie.Need-slice_bounds-stretch-end invariant-loop decreases-loop
+slice_bounds-stretch-end c = search rules
+
+slice_bounds-carried_in-start : tie.Need-slice_bounds-carried_in-start invariant-loop decreases-loop
+slice_bounds-carried_in-start c = search rules
+
+slice_bounds-carried_in-end : tie.Need-slice_bounds-carried_in-end invariant-loop decreases-loop
+slice_bounds-carried_in-end c = search rules
+
+slice_bounds-carried_in-start-in-loop-why : tie.Need-slice_bounds-carried_in-start-in-loop-why invariant-loop decreases-loop
+slice_bounds-carried_in-start-in-loop-why c = search rules
+
+slice_bounds-carried_in-end-in-loop-why : tie.Need-slice_bounds-carried_in-end-in-loop-why invariant-loop decreases-loop
+slice_bounds-carried_in-end-in-loop-why c = search rules
+
+pub carried_all_spec : {M : Type 1} → statement M
+carried_all_spec = tie.close (tie.spec invariant-loop decreases-loop loop-holds mul-stretch sub-stretch slice_bounds-stretch-start slice_bounds-stretch-end stretch-requires add-carried-in mul-carried-in sub-carried-in slice_bounds-carried_in-start slice_bounds-carried_in-end sub-carried-in-2 slice_bounds-carried_in-start-in-loop-why slice_bounds-carried_in-end-in-loop-why carried-in-requires enum-known-part same_length returns enum_told add-i same-length-2 returns-2 loop-less loop-again)

@@ -21,78 +21,78 @@ abbrev bytes : tie.Start → List ℕ
 bytes s = s.args.bytes.now
 
 abbrev starts : tie.Start → ℕ
-starts s = length s.args.starts.now
+starts s = length s.args.starts-1.now
 
 abbrev ends : tie.Start → ℕ
-ends s = length s.args.ends.now
+ends s = length s.args.ends-1.now
 
 abbrev steps : tie.Start → ℕ
-steps s = length s.args.steps.now
+steps s = length s.args.steps-1.now
 
 -- the head was right: n runs
-opened : (c : tie.After-n) →
-    let at-slice-known = c.before.before.before in let at-start = at-slice-known.before.before in Gives c.n.given.0.0 ≡ open_of (bytes (at-start))
-opened c = sym (ap says_opened c.n.given.1) ∙ c.before.before.open-record.ensures
+opened : (c : tie.In-Runs-2) →
+    let at-slice-known = c.before.before.before in let at-start = at-slice-known.before.before in Gives c.in-Runs.n ≡ open_of (bytes (at-start))
+opened c = sym (ap says_opened c.in-Runs.is) ∙ c.before.before.open_record.ensures
 
-told : (c : tie.After-n) →
-    let at-slice-known = c.before.before.before in let at-start = at-slice-known.before.before in Opens (bytes (at-start)) c.n.given.0.0
+told : (c : tie.In-Runs-2) →
+    let at-slice-known = c.before.before.before in let at-start = at-slice-known.before.before in Opens (bytes (at-start)) c.in-Runs.n
 told c =
     let at-slice-known = c.before.before.before in
     let s = at-slice-known.before.before in
-    known (bytes s) (starts s) (ends s) (steps s) c.n.given.0.0 (opened c)
+    known (bytes s) (starts s) (ends s) (steps s) c.in-Runs.n (opened c)
 
-open-record-requires : tie.Need-open-record-requires
+open-record-requires : tie.Need-open_record-requires
 open-record-requires c κs = search rules
 
-enum-known-why : tie.Need-enum-known-why
+enum-known-why : tie.Need-enum_known-why
 enum-known-why c = search rules
 
-enum-known-n : tie.Need-enum-known-n
+enum-known-n : tie.Need-enum_known-n
 enum-known-n c = search rules
 
-returns : tie.Need-returns
+returns : tie.Need-returns-then-starts-n
 returns c =
     let n = c.before.before in
     let at-slice-known = n.before.before.before in
     let s = at-slice-known.before.before in
-    (no-starts (bytes s) (starts s) (ends s) (steps s) _ (opened n) c.if1.true, (refl, (refl, refl)))
+    (no-starts (bytes s) (starts s) (ends s) (steps s) _ (opened n) c.if-starts-n.true, (refl, (refl, refl)))
 
-returns-2 : tie.Need-returns-2
+returns-2 : tie.Need-returns-then-ends-n
 returns-2 c =
     let n = c.before.before.before in
     let at-slice-known = n.before.before.before in
     let s = at-slice-known.before.before in
-    (no-ends (bytes s) (starts s) (ends s) (steps s) _ (opened n) c.if2.true, (refl, (refl, refl)))
+    (no-ends (bytes s) (starts s) (ends s) (steps s) _ (opened n) c.if-ends-n.true, (refl, (refl, refl)))
 
-returns-3 : tie.Need-returns-3
+returns-3 : tie.Need-returns-then-steps-n
 returns-3 c =
     let at-known-told2 = c.before.before.before in
     let n = at-known-told2.before in
     let at-slice-known = n.before.before.before in
     let s = at-slice-known.before.before in
-    (no_steps (bytes s) (starts s) (ends s) (steps s) _ (opened n) c.if3.true, (refl, (refl, refl)))
+    (no_steps (bytes s) (starts s) (ends s) (steps s) _ (opened n) c.if-steps-n.true, (refl, (refl, refl)))
 
-check-runs-requires : tie.Need-check-runs-requires
+check-runs-requires : tie.Need-check_runs-requires
 check-runs-requires c κs =
     let at-known-told2 = c.before.before.before in
     let n = at-known-told2.before in
     ((told n).few, (told n).there)
 
-enum-known-why-2 : tie.Need-enum-known-why-2
+enum-known-why-2 : tie.Need-enum_known-why-in-Refused-check_runs
 enum-known-why-2 c = search rules
 
-enum_told : tie.Need-enum-told
+enum_told : tie.Need-enum_told-1
 enum_told c = search rules
 
-read-runs-requires : tie.Need-read-runs-requires
+read-runs-requires : tie.Need-read_runs-requires
 read-runs-requires c κs =
     let at-enum-told = c.before.before.before in
     let e = at-enum-told.before.before.before in
     let at-known-told2 = e.before.before.before in
     let n = at-known-told2.before in
-    ((told n).few, (told n).there, e.before.before.if1.false, e.before.if2.false, e.if3.false)
+    ((told n).few, (told n).there, e.before.before.if-starts-n.false, e.before.if-ends-n.false, e.if-steps-n.false)
 
-mul-t24 : tie.Need-overflow-mul-t24
+mul-t24 : tie.Need-overflow_mul-result
 mul-t24 c =
     let at-starts = c.before.before.before in
     let at-read-runs-arg2 = at-starts.before.before.before in
@@ -102,7 +102,7 @@ mul-t24 c =
     let at_n = at-known-told2.before in
     omega (arith, (told (at_n)).few)
 
-add-t25 : tie.Need-overflow-add-t25
+add-t25 : tie.Need-overflow_add-result
 add-t25 c =
     let at-starts = c.before.before.before in
     let at-read-runs-arg2 = at-starts.before.before.before in
@@ -112,14 +112,14 @@ add-t25 c =
     let at_n = at-known-told2.before in
     omega (arith, (told (at_n)).few)
 
-returns-4 : tie.Need-returns-4
+returns-4 : tie.Need-returns-in-Refused
 returns-4 c =
     let w = c.before in
     let at-slice-known = w.before.before.before in
     let s = at-slice-known.before.before in
-    (head-refused (bytes s) (starts s) (ends s) (steps s) _ (sym (ap says_opened w.why.given.1) ∙ w.before.before.open-record.ensures), (refl, (refl, refl)))
+    (head-refused (bytes s) (starts s) (ends s) (steps s) _ (sym (ap says_opened w.in-Refused.is) ∙ w.before.before.open_record.ensures), (refl, (refl, refl)))
 
-returns-5 : tie.Need-returns-5
+returns-5 : tie.Need-returns-in-Refused-check_runs
 returns-5 c =
     let w = c.before in
     let e = w.before.before.before in
@@ -127,21 +127,21 @@ returns-5 c =
     let n = at-known-told2.before in
     let at-slice-known = n.before.before.before in
     let s = at-slice-known.before.before in (
-      column-refused (bytes s) (starts s) (ends s) (steps s) _ (opened n) e.before.before.if1.false e.before.if2.false e.if3.false _
-          (was-refused _ _ w.before.before.check-runs.ensures _ w.why2.given.1),
+      column-refused (bytes s) (starts s) (ends s) (steps s) _ (opened n) e.before.before.if-starts-n.false e.before.if-ends-n.false e.if-steps-n.false _
+          (was-refused _ _ w.before.before.check_runs.ensures _ w.in-Refused-check_runs.is),
       (refl, (refl, refl)),
     )
 
-same_length : tie.Need-same-length
+same_length : tie.Need-shape_of-starts
 same_length c = search rules
 
-same-length-2 : tie.Need-same-length-2
+same-length-2 : tie.Need-shape_of-ends
 same-length-2 c = search rules
 
-same-length-3 : tie.Need-same-length-3
+same-length-3 : tie.Need-shape_of-steps
 same-length-3 c = search rules
 
-returns-6 : tie.Need-returns-6
+returns-6 : tie.Need-returns-in-Fine
 returns-6 c =
     let at-starts = c.before.before.before in
     let r = at-starts.before in
@@ -152,38 +152,18 @@ returns-6 c =
     let n = at-known-told2.before in
     let at-slice-known = n.before.before.before in
     let s = at-slice-known.before.before in
-    let k = n.n.given.0.0 in
+    let k = n.in-Runs.n in
     let is = (told n).is-runs in (
-      column-fine (bytes s) (starts s) (ends s) (steps s) k (opened n) e.before.before.if1.false e.before.if2.false e.if3.false
-          (sym (ap says_checked t.enum_told.given.1) ∙ t.before.before.check-runs.ensures),
+      column-fine (bytes s) (starts s) (ends s) (steps s) k (opened n) e.before.before.if-starts-n.false e.before.if-ends-n.false e.if-steps-n.false
+          (sym (ap says_checked t.in-Fine.is) ∙ t.before.before.check_runs.ensures),
       (
-        each-filled (start_in (bytes s)) _ s.args.starts.now k (runs_in (bytes s)) is e.before.before.if1.false r.read-runs.ensures.0,
+        each-filled (start_in (bytes s)) _ s.args.starts-1.now k (runs_in (bytes s)) is e.before.before.if-starts-n.false r.read_runs.ensures.0,
         (
-          each-filled (λ j. total_in (bytes s) (suc j)) _ s.args.ends.now k (runs_in (bytes s)) is e.before.if2.false r.read-runs.ensures.1.0,
-          each-filled (step_in (bytes s)) _ s.args.steps.now k (runs_in (bytes s)) is e.if3.false r.read-runs.ensures.1.1,
+          each-filled (λ j. total_in (bytes s) (suc j)) _ s.args.ends-1.now k (runs_in (bytes s)) is e.before.if-ends-n.false r.read_runs.ensures.1.0,
+          each-filled (step_in (bytes s)) _ s.args.steps-1.now k (runs_in (bytes s)) is e.if-steps-n.false r.read_runs.ensures.1.1,
         ),
       ),
     )
 
 pub read_spec : {M : Type 1} → statement M
-read_spec =
-    tie.close
-    (tie.spec
-    open-record-requires
-    enum-known-why
-    enum-known-n
-    returns
-    returns-2
-    returns-3
-    check-runs-requires
-    enum-known-why-2
-    enum_told
-    read-runs-requires
-    mul-t24
-    add-t25
-    returns-4
-    returns-5
-    same_length
-    same-length-2
-    same-length-3
-    returns-6)
+read_spec = tie.close (tie.spec open-record-requires enum-known-why enum-known-n returns returns-2 returns-3 check-runs-requires enum-known-why-2 enum_told read-runs-requires mul-t24 add-t25 returns-4 returns-5 same_length same-length-2 same-length-3 returns-6)

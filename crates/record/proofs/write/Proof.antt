@@ -14,67 +14,55 @@ use Rattle.record.proofs.write.Statement.{statement}
 use Rattle.record.proofs.write.Tie as tie
 
 -- the start, past the check
-abbrev start : tie.After-enum-told → tie.Start
+abbrev start : tie.In-Fine → tie.Start
 start c =
     let at-slice-known = c.before.before.before in
     let at-start = at-slice-known.before.before in
     at-start
 
-abbrev this : tie.After-enum-told → Column
+abbrev this : tie.In-Fine → Column
 this c = column_now (start c).args.starts (start c).args.ends (start c).args.steps
 
 -- the check passed
-fine : (c : tie.After-enum-told) → Passes (source_of (this c))
-fine c = was-fine _ _ c.before.before.check.ensures c.enum_told.given.1
+fine : (c : tie.In-Fine) → Passes (source_of (this c))
+fine c = was-fine _ _ c.before.before.check.ensures c.in-Fine.is
 
 check-requires : tie.Need-check-requires
 check-requires c κs = search rules
 
-enum-known-why : tie.Need-enum-known-why
+enum-known-why : tie.Need-enum_known-why
 enum-known-why c = search rules
 
-enum_told : tie.Need-enum-told
+enum_told : tie.Need-enum_told-1
 enum_told c = search rules
 
-mul-size : tie.Need-overflow-mul-size
+mul-size : tie.Need-overflow_mul-size
 mul-size c = omega (arith, (sound-parts _ (passes-sound (this c) (fine c))).shaped.few)
 
-add-size : tie.Need-overflow-add-size
+add-size : tie.Need-overflow_add-size
 add-size c = omega (arith, (sound-parts _ (passes-sound (this c) (fine c))).shaped.few)
 
-returns : tie.Need-returns
-returns c = (write-short (this c.before) _ (fine c.before) c.if1.true, refl)
+returns : tie.Need-returns-then-out-size
+returns c = (write-short (this c.before) _ (fine c.before) c.if-out-size.true, refl)
 
-write-all-requires : tie.Need-write-all-requires
-write-all-requires c κs = (passes-sound _ (fine c.before.before), c.before.if1.false)
+write-all-requires : tie.Need-write_all-requires
+write-all-requires c κs = (passes-sound _ (fine c.before.before), c.before.if-out-size.false)
 
-returns-2 : tie.Need-returns-2
+returns-2 : tie.Need-returns-in-Refused
 returns-2 c =
-    (write-refused _ _ _ (was-refused _ _ c.before.before.before.check.ensures _ c.before.why.given.1), refl)
+    (write-refused _ _ _ (was-refused _ _ c.before.before.before.check.ensures _ c.before.in-Refused.is), refl)
 
-same_length : tie.Need-same-length
+same_length : tie.Need-shape_of-out
 same_length c = search rules
 
-returns-3 : tie.Need-returns-3
+returns-3 : tie.Need-returns-else-out-size
 returns-3 c =
     let w = c.before.before in
     let e = w.before.before in
     let k = this e.before in (
-      write-fine k _ (fine e.before) e.if1.false,
-      w.write-all.ensures ∙ filled (record_of k) (start e.before).args.out.now (omega (arith, record-length k, e.if1.false)),
+      write-fine k _ (fine e.before) e.if-out-size.false,
+      w.write_all.ensures ∙ filled (record_of k) (start e.before).args.out-1.now (omega (arith, record-length k, e.if-out-size.false)),
     )
 
 pub write_spec : {M : Type 1} → statement M
-write_spec =
-    tie.close
-    (tie.spec
-    check-requires
-    enum-known-why
-    enum_told
-    mul-size
-    add-size
-    returns
-    write-all-requires
-    returns-2
-    same_length
-    returns-3)
+write_spec = tie.close (tie.spec check-requires enum-known-why enum_told mul-size add-size returns write-all-requires returns-2 same_length returns-3)

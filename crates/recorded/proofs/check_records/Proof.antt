@@ -13,25 +13,25 @@ col s = column_now s.args.starts s.args.ends s.args.steps
 check-requires : tie.Need-check-requires
 check-requires c κs = search rules
 
-enum-known-why : tie.Need-enum-known-why
+enum-known-why : tie.Need-enum_known-why
 enum-known-why c = search rules
 
-enum_told : tie.Need-enum-told
+enum_told : tie.Need-enum_told-1
 enum_told c = search rules
 
-check-sound-requires : tie.Need-check-sound-requires
+check-sound-requires : tie.Need-check_sound-requires
 check-sound-requires c κs =
     let k = c.before.before in
-    was-sound (col k.before.before) k.check.result k.check.ensures c.enum_told.given.1
+    was-sound (col k.before.before) k.check.result k.check.ensures c.in-Fine.is
 
-returns : tie.Need-returns
+returns : tie.Need-returns-in-Refused
 returns c =
     let w = c.before in
     let k = w.before.before in
-    says-checked _ _ _ (was-refused _ _ k.check.ensures _ w.why.given.1)
+    says-checked _ _ _ (was-refused _ _ k.check.ensures _ w.in-Refused.is)
 
-returns-2 : tie.Need-returns-2
+returns-2 : tie.Need-returns-in-Fine
 returns-2 c = search rules
 
-pub check-records-spec : {M : Type 1} → statement M
-check-records-spec = tie.close (tie.spec check-requires enum-known-why enum_told check-sound-requires returns returns-2)
+pub check_records_spec : {M : Type 1} → statement M
+check_records_spec = tie.close (tie.spec check-requires enum-known-why enum_told check-sound-requires returns returns-2)

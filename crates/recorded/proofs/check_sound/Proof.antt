@@ -38,24 +38,24 @@ fits-requires c κs = search rules
 ordered-requires : tie.Need-ordered-requires
 ordered-requires c κs = search rules
 
-returns : tie.Need-returns
+returns : tie.Need-returns-then-fits
 returns c =
     let f = c.before in
     let s = st f in
-    says-sound _ _ _ (sound-passes (col s) s.pre) (says-fine (up s) (records s) (sym c.if1.true ∙ told f))
+    says-sound _ _ _ (sound-passes (col s) s.pre) (says-fine (up s) (records s) (sym c.if-fits.true ∙ told f))
 
-returns-2 : tie.Need-returns-2
+returns-2 : tie.Need-returns-then-ordered
 returns-2 c =
     let o = c.before in
     let f = o.before.before in
     let s = st f in
-    says-sound _ _ _ (sound-passes (col s) s.pre) (says_range (up s) (records s) (sym o.before.if1.false ∙ told f) (sym o.ordered.ensures ∙ c.if2.true))
+    says-sound _ _ _ (sound-passes (col s) s.pre) (says_range (up s) (records s) (sym o.before.if-fits.false ∙ told f) (sym o.ordered.ensures ∙ c.if-ordered.true))
 
-returns-3 : tie.Need-returns-3
+returns-3 : tie.Need-returns
 returns-3 c =
     let o = c.before in
     let s = st o.before.before in
-    says-sound _ _ _ (sound-passes (col s) s.pre) (says-order (up s) (records s) (sym o.ordered.ensures ∙ c.if2.false))
+    says-sound _ _ _ (sound-passes (col s) s.pre) (says-order (up s) (records s) (sym o.ordered.ensures ∙ c.if-ordered.false))
 
-pub check-sound-spec : {M : Type 1} → statement M
-check-sound-spec = tie.close (tie.spec fits-requires returns ordered-requires returns-2 returns-3)
+pub check_sound_spec : {M : Type 1} → statement M
+check_sound_spec = tie.close (tie.spec fits-requires returns ordered-requires returns-2 returns-3)

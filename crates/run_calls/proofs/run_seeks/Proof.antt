@@ -18,10 +18,10 @@ use borrow.Author.Rules.{rules}
 use Rattle.run_calls.proofs.run_seeks.Statement.{statement}
 use Rattle.run_calls.proofs.run_seeks.Tie as tie
 
-abbrev invariant-loop : tie.invariant-loop
+abbrev invariant-loop : tie.invariant-loop-k
 invariant-loop base step elements targets count out₀ by last at₀ value₀ k₀ out at value k = Making (to_z w64 base) (to_z w16 step) elements targets out₀ count at (to_z w64 value) k out
 
-abbrev decreases-loop : tie.decreases-loop
+abbrev decreases-loop : tie.decreases-loop-k
 decreases-loop base step elements targets count out₀ by last at₀ value₀ k₀ out at value k = count - k
 
 -- the numbers after their bits, and the last element
@@ -30,7 +30,7 @@ module _ (s : tie.Start invariant-loop decreases-loop) where
   of-base = to_z-of_z s.ranges.base
 
   of-step : to_z w16 (of_z w16 s.args.step) ≡ s.args.step
-  of-step = to_z-of_z s.fits.step
+  of-step = to_z-of_z s.ranges.step
 
   of-by : to_z w64 (of_z w64 (to_z w16 (of_z w16 s.args.step))) ≡ s.args.step
   of-by = rw of-step (back w64 s.args.step (omega arith))
@@ -39,7 +39,7 @@ module _ (s : tie.Start invariant-loop decreases-loop) where
   of-top = to_z_pos w64 (omega (arith, s.pre.0.few))
 
   product : mag (s.args.step *ℤ pos (s.args.elements - 1)) < half64
-  product = product-fits s.args.step (s.args.elements - 1) s.fits.step.sfits (omega (arith, s.pre.0.few))
+  product = product-fits s.args.step (s.args.elements - 1) s.ranges.step.sfits (omega (arith, s.pre.0.few))
 
   of-product : to_z w64 (of_z w64 (s.args.step *ℤ pos (s.args.elements - 1))) ≡ s.args.step *ℤ pos (s.args.elements - 1)
   of-product = back w64 (s.args.step *ℤ pos (s.args.elements - 1)) product
@@ -53,133 +53,113 @@ module _ (s : tie.Start invariant-loop decreases-loop) where
 
 -- ---- at the loop
 
-module _ (c : tie.At-loop invariant-loop decreases-loop) where
-  inv : let a = c.before.args in Making a.base a.step a.elements a.targets.now a.out.now a.count c.loop.at (to_z w64 c.loop.value) c.loop.k c.loop.out
-  inv = rw (of-base c.before, of-step c.before) at c.loop.invariant
 
-  long : length c.loop.out ≡ length c.before.args.out.now
+module _ (c : tie.At-loop-k invariant-loop decreases-loop) where
+  inv : let a = c.before.args in Making a.base a.step a.elements a.targets.now a.out.now a.count c.loop-k.at (to_z w64 c.loop-k.value) c.loop-k.k c.loop-k.out
+  inv = rw (of-base c.before, of-step c.before) at c.loop-k.invariant
+
+  long : length c.loop-k.out ≡ length c.before.args.out.now
   long = making-long _ _ _ _ _ inv c.before.requires.1.1
 
 -- the target that is read
-abbrev read : tie.After-target invariant-loop decreases-loop → ℤ
-read c = let l = c.before.before in get_or l.before.args.targets.now l.loop.k (pos 0)
+abbrev read : tie.After-target-1 invariant-loop decreases-loop → ℤ
+read c = let l = c.before.before in get_or l.before.args.targets.now l.loop-k.k (pos 0)
 
-of-target : (c : tie.After-target invariant-loop decreases-loop) → to_z w64 (of_z w64 (read c)) ≡ read c
-of-target c = back w64 (read c) c.target.given
+of-target : (c : tie.After-target-1 invariant-loop decreases-loop) → to_z w64 (of_z w64 (read c)) ≡ read c
+of-target c = back w64 (read c) c.target-1.given
 
 -- it is not above the last element
-meets : (c : tie.Else1 invariant-loop decreases-loop) → let at-loop = c.before.before.before in let a = at-loop.before.args in
+meets : (c : tie.Else-last-target invariant-loop decreases-loop) → let at-loop = c.before.before.before in let a = at-loop.before.args in
     lt_z (offset (to_z w64 (of_z w64 a.base)) (to_z w16 (of_z w16 a.step)) (a.elements - 1)) (read c.before) ≡ false
 meets c =
     let at-loop = c.before.before.before in
     let s = at-loop.before in
-    rw (of-base s, of-step s) (rw (of-last s, of-target c.before) at c.if1.false)
+    rw (of-base s, of-step s) (rw (of-last s, of-target c.before) at c.if-last-target.false)
 
 -- ---- the needs
 
-cast-by : tie.Need-overflow-cast-by invariant-loop decreases-loop
+
+cast-by : tie.Need-overflow_cast-by invariant-loop decreases-loop
 cast-by c = rw (of-step c) (record { sfits = omega arith })
 
-sub-last : tie.Need-overflow-sub-last invariant-loop decreases-loop
+sub-last : tie.Need-overflow_sub-last invariant-loop decreases-loop
 sub-last c = omega (arith, c.requires.0.some)
 
-cast-last : tie.Need-overflow-cast-last invariant-loop decreases-loop
+cast-last : tie.Need-overflow_cast-last invariant-loop decreases-loop
 cast-last c = omega (arith, c.requires.0.few)
 
-mul-last : tie.Need-overflow-mul-last invariant-loop decreases-loop
+mul-last : tie.Need-overflow_mul-last invariant-loop decreases-loop
 mul-last c = rw (of-by c, of-top c) (record { sfits = product c })
 
-add-last : tie.Need-overflow-add-last invariant-loop decreases-loop
+add-last : tie.Need-overflow_add-last invariant-loop decreases-loop
 add-last c = rw (of-by c, of-top c, of-product c, of-base c) (record { sfits = last_fits c })
 
-loop-holds : tie.Need-loop-init invariant-loop decreases-loop
+loop-holds : tie.Need-loop-k-init invariant-loop decreases-loop
 loop-holds c = making-start _ _ _ _ _ _ c.requires.0.some
 
-mul-target : tie.Need-overflow-mul-target invariant-loop decreases-loop
+mul-target : tie.Need-offset_bounds-targets-k invariant-loop decreases-loop
 mul-target c = search rules
 
-shared-slice-copy-out-target : tie.Need-shared-slice-copy-out-target invariant-loop decreases-loop
-shared-slice-copy-out-target c = omega (arith, c.loop-test.true, c.before.before.requires.1.0)
+shared-slice-copy-out-target : tie.Need-bounds-targets-k invariant-loop decreases-loop
+shared-slice-copy-out-target c = omega (arith, c.loop-k-test.true, c.before.before.requires.1.0)
 
-same_length : tie.Need-same-length invariant-loop decreases-loop
+same_length : tie.Need-shape_of-out-then-last-target invariant-loop decreases-loop
 same_length c =
     let in-loop = c.before.before in
     long in-loop.before
 
-returns : tie.Need-returns invariant-loop decreases-loop
+returns : tie.Need-returns-then-last-target invariant-loop decreases-loop
 returns c =
     let at-loop = c.before.before.before in
     let s = at-loop.before in
-    let d = making-done _ _ _ _ _ (inv at-loop) s.requires.1.1 (λ _. rw (of-last s, of-target c.before) at c.if1.true) in
+    let d = making-done _ _ _ _ _ (inv at-loop) s.requires.1.1 (λ _. rw (of-last s, of-target c.before) at c.if-last-target.true) in
     (d.0, (d.1, d.2))
 
-hop-requires : tie.Need-hop-requires invariant-loop decreases-loop
+hop-requires : tie.Need-hop-spot-requires invariant-loop decreases-loop
 hop-requires c κs =
     let in-loop = c.before.before in
     let at-loop = in-loop.before in
     let s = at-loop.before in
     rw (of-target c.before)
-    (hop-asked _ _ _ _ _ at-loop.loop.invariant s.requires.1.1 in-loop.loop-test.true (omega (arith, in-loop.loop-test.true, s.requires.1.0)) (meets c) (rw (of-base s, of-step s) s.requires.0))
+    (hop-asked _ _ _ _ _ at-loop.loop-k.invariant s.requires.1.1 in-loop.loop-k-test.true (omega (arith, in-loop.loop-k-test.true, s.requires.1.0)) (meets c) (rw (of-base s, of-step s) s.requires.0))
 
-mul-value : tie.Need-overflow-mul-value invariant-loop decreases-loop
+mul-value : tie.Need-offset_bounds-out-k invariant-loop decreases-loop
 mul-value c = search rules
 
-slice-set-from-value : tie.Need-slice-set-from-value invariant-loop decreases-loop
+slice-set-from-value : tie.Need-bounds-out-k invariant-loop decreases-loop
 slice-set-from-value c =
     let at-else = c.before.before in
     let in-loop = at-else.before.before in
     let at-loop = in-loop.before in
-    omega (arith, long at-loop, in-loop.loop-test.true, at-loop.before.requires.1.1)
+    omega (arith, long at-loop, in-loop.loop-k-test.true, at-loop.before.requires.1.1)
 
-add-k : tie.Need-overflow-add-k invariant-loop decreases-loop
+add-k : tie.Need-overflow_add-k invariant-loop decreases-loop
 add-k c = search rules
 
-loop-less : tie.Need-loop-smaller invariant-loop decreases-loop
+loop-less : tie.Need-loop-k-smaller invariant-loop decreases-loop
 loop-less c = search rules
 
-of-value : (c : tie.After-struct-told invariant-loop decreases-loop) → let v = c.before.hop.result.value in to_z w64 (of_z w64 v) ≡ v
-of-value c = back w64 c.before.hop.result.value (omega (arith, c.struct_told.given, c.before.hop.type-inv))
+of-value : (c : tie.After-struct_told-1 invariant-loop decreases-loop) → let v = c.before.hop-spot.result.value in to_z w64 (of_z w64 v) ≡ v
+of-value c = back w64 c.before.hop-spot.result.value (omega (arith, c.struct_told-1.given, c.before.hop-spot.type_inv))
 
-loop-again : tie.Need-loop-preserved invariant-loop decreases-loop
+loop-again : tie.Need-loop-k-preserved invariant-loop decreases-loop
 loop-again c =
     let at-else = c.before.before in
     let in-loop = at-else.before.before in
     let at-loop = in-loop.before in
     let s = at-loop.before in
-    making-more _ _ _ _ _ at-loop.loop.invariant s.requires.1.1 in-loop.loop-test.true (omega (arith, in-loop.loop-test.true, s.requires.1.0)) (meets at-else) _ _
-    (rw (of-value c) (rw (of-target at-else.before) at c.before.hop.ensures))
+    making-more _ _ _ _ _ at-loop.loop-k.invariant s.requires.1.1 in-loop.loop-k-test.true (omega (arith, in-loop.loop-k-test.true, s.requires.1.0)) (meets at-else) _ _
+    (rw (of-value c) (rw (of-target at-else.before) at c.before.hop-spot.ensures))
 
-same-length-2 : tie.Need-same-length-2 invariant-loop decreases-loop
+same-length-2 : tie.Need-shape_of-out invariant-loop decreases-loop
 same-length-2 c = long c.before
 
-returns-2 : tie.Need-returns-2 invariant-loop decreases-loop
+returns-2 : tie.Need-returns invariant-loop decreases-loop
 returns-2 c =
     let at-loop = c.before in
     let s = at-loop.before in
-    let d = making-done _ _ _ _ _ (inv at-loop) s.requires.1.1 (λ l. absurd (omega (arith, c.loop-test.false))) in
+    let d = making-done _ _ _ _ _ (inv at-loop) s.requires.1.1 (λ l. absurd (omega (arith, c.loop-k-test.false))) in
     (d.0, (d.1, d.2))
 
-pub run-seeks-spec : {M : Type 1} → statement M
-run-seeks-spec =
-    tie.close
-    (tie.spec
-    invariant-loop
-    decreases-loop
-    cast-by
-    sub-last
-    cast-last
-    mul-last
-    add-last
-    loop-holds
-    mul-target
-    shared-slice-copy-out-target
-    same_length
-    returns
-    hop-requires
-    mul-value
-    slice-set-from-value
-    add-k
-    loop-less
-    loop-again
-    same-length-2
-    returns-2)
+pub run_seeks_spec : {M : Type 1} → statement M
+run_seeks_spec = tie.close (tie.spec invariant-loop decreases-loop cast-by sub-last cast-last mul-last add-last loop-holds mul-target shared-slice-copy-out-target same_length returns hop-requires mul-value slice-set-from-value add-k loop-less loop-again same-length-2 returns-2)

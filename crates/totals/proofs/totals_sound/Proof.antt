@@ -17,7 +17,7 @@ use borrow.Author.Rules.{rules}
 use Rattle.totals.proofs.totals_sound.Statement.{statement}
 use Rattle.totals.proofs.totals_sound.Tie as tie
 
-abbrev start : tie.After-slice-known2 → tie.Start
+abbrev start : tie.After-slice_known-2-1 → tie.Start
 start c =
     let k3 = c.before.before in
     k3.before.before.before
@@ -36,88 +36,88 @@ module _ (s : tie.Start) where
   es = s.args.to.now
 
   abbrev rooms : List ℕ
-  rooms = length s.args.counts.now ∷ length s.args.leasts.now ∷ length s.args.greatests.now ∷ length s.args.highs.now ∷ length s.args.lows.now ∷ []
+  rooms = length s.args.counts-1.now ∷ length s.args.leasts-1.now ∷ length s.args.greatests-1.now ∷ length s.args.highs-1.now ∷ length s.args.lows-1.now ∷ []
 
 -- the counts' array has a place a window
-room : (c : tie.After-count-all) → let e = c.before.before.before in let s = start e.before.before in length s.args.from.now ≤ length c.count-all.new.1.1.1.0
+room : (c : tie.After-count_all) → let e = c.before.before.before in let s = start e.before.before in length s.args.from.now ≤ length c.count_all.new.1.1.1.0
 room c =
     let e = c.before.before.before in
-    omega (arith, e.before.if1.false, c.count-all.auto.1.1.1.0)
+    omega (arith, e.before.if-n-gt256.false, c.count_all.auto.1.1.1.0)
 
 -- each window ends inside
-within : (c : tie.After-count) → let m = c.before.before.before in let e = m.before.before.before in let s = start e.before.before in
+within : (c : tie.In-All-2) → let m = c.before.before.before in let e = m.before.before.before in let s = start e.before.before in
     ends_within (size_of (col s)) s.args.from.now s.args.to.now ≡ true
 within c =
     let m = c.before.before.before in
-    rw m.before.before.end_Before.ensures at (counted-all _ _ _ _ _ _ m.count-all.ensures _ c.count.given.1).inside
+    rw m.before.before.end_Before.ensures at (counted-all _ _ _ _ _ _ m.count_all.ensures _ c.in-All.is).inside
 
-returns : tie.Need-returns
-returns c = let s = start c.before in (sound-many (sq s) (ss s) (es s) (rooms s) c.if1.true, (refl, (refl, (refl, (refl, refl)))))
+returns : tie.Need-returns-then-n-gt256
+returns c = let s = start c.before in (sound-many (sq s) (ss s) (es s) (rooms s) c.if-n-gt256.true, (refl, (refl, (refl, (refl, refl)))))
 
-returns-2 : tie.Need-returns-2
-returns-2 c = let s = start c.before.before in (sound-apart (sq s) (ss s) (es s) (rooms s) c.if2.true, (refl, (refl, (refl, (refl, refl)))))
+returns-2 : tie.Need-returns-then-to-n
+returns-2 c = let s = start c.before.before in (sound-apart (sq s) (ss s) (es s) (rooms s) c.if-to-n.true, (refl, (refl, (refl, (refl, refl)))))
 
-end-before-requires : tie.Need-end-before-requires
+end-before-requires : tie.Need-end_before-requires
 end-before-requires c κs = search rules
 
-slice-aggregate-count-all : tie.Need-slice-aggregate-count-all
+slice-aggregate-count-all : tie.Need-slice_bounds-count_all-end
 slice-aggregate-count-all c = search rules
 
-count-all-requires : tie.Need-count-all-requires
+count-all-requires : tie.Need-count_all-requires
 count-all-requires c κs = let b = c.before in
     let e = b.before in
     let s = start e.before.before in
-    ((sym e.if2.false, e.before.if1.false, e.before.if1.false), rw b.end_Before.ensures (size-most _ (sound-parts _ s.pre)))
+    ((sym e.if-to-n.false, e.before.if-n-gt256.false, e.before.if-n-gt256.false), rw b.end_Before.ensures (size-most _ (sound-parts _ s.pre)))
 
-enum_told : tie.Need-enum-told
+enum_told : tie.Need-enum_told-1
 enum_told c = search rules
 
-enum-known-count : tie.Need-enum-known-count
+enum-known-count : tie.Need-enum_known-count
 enum-known-count c = search rules
 
-array-share-prefix-numbers : tie.Need-array-share-prefix-numbers
+array-share-prefix-numbers : tie.Need-slice_bounds-numbers-end
 array-share-prefix-numbers c = let k = c.before in
     let n2 = k.before.before in
     room n2.before
 
-slice-aggregate-total-up : tie.Need-slice-aggregate-total-up
+slice-aggregate-total-up : tie.Need-slice_bounds-total_up-end
 slice-aggregate-total-up c = let k = c.before.before in
     let n2 = k.before.before in
     sym (length-take-le _ _ (room n2.before))
 
-total-up-requires : tie.Need-total-up-requires
+total-up-requires : tie.Need-total_up-requires
 total-up-requires c κs = let a2 = c.before.before.before in
     let n3 = a2.before.before in
     let k = n3.before.before in
     let m = k.before.before.before in
     let e = m.before.before.before in
     let s = start e.before.before in
-    let t = counted-all _ _ _ _ _ _ m.count-all.ensures _ k.count.given.1 in
-    (s.pre, (windows-inside (sq s) (ss s) (es s) (rooms s) e.before.if1.false e.if2.false (within k), (filled-front (count_at (ss s) (es s)) m.count-all.new.1.1.1.0 _ (length (ss s)) e.before.if1.false t.each-is, t.added)))
+    let t = counted-all _ _ _ _ _ _ m.count_all.ensures _ k.in-All.is in
+    (s.pre, (windows-inside (sq s) (ss s) (es s) (rooms s) e.before.if-n-gt256.false e.if-to-n.false (within k), (filled-front (count_at (ss s) (es s)) m.count_all.new.1.1.1.0 _ (length (ss s)) e.before.if-n-gt256.false t.each-is, t.added)))
 
-returns-3 : tie.Need-returns-3
+returns-3 : tie.Need-returns-in-Beyond
 returns-3 c = let n2 = c.before.before in
     let m = n2.before in
     let e = m.before.before.before in
     let s = start e.before.before in
-    (sound-beyond (sq s) (ss s) (es s) (rooms s) e.before.if1.false e.if2.false (rw m.before.before.end_Before.ensures at (counted-beyond _ _ _ _ _ _ m.count-all.ensures c.enum_told.given.1)), (refl, (refl, (refl, (refl, refl)))))
+    (sound-beyond (sq s) (ss s) (es s) (rooms s) e.before.if-n-gt256.false e.if-to-n.false (rw m.before.before.end_Before.ensures at (counted-beyond _ _ _ _ _ _ m.count_all.ensures c.in-Beyond.is)), (refl, (refl, (refl, (refl, refl)))))
 
-same_length : tie.Need-same-length
+same_length : tie.Need-shape_of-counts
 same_length c = search rules
 
-same-length-2 : tie.Need-same-length-2
+same-length-2 : tie.Need-shape_of-leasts
 same-length-2 c = search rules
 
-same-length-3 : tie.Need-same-length-3
+same-length-3 : tie.Need-shape_of-greatests
 same-length-3 c = search rules
 
-same-length-4 : tie.Need-same-length-4
+same-length-4 : tie.Need-shape_of-highs
 same-length-4 c = search rules
 
-same-length-5 : tie.Need-same-length-5
+same-length-5 : tie.Need-shape_of-lows
 same-length-5 c = search rules
 
-returns-4 : tie.Need-returns-4
+returns-4 : tie.Need-returns-in-All
 returns-4 c = let g = c.before.before.before in
     let k3 = g.before.before in
     let u = k3.before.before in
@@ -127,26 +127,7 @@ returns-4 c = let g = c.before.before.before in
     let m = k.before.before.before in
     let e = m.before.before.before in
     let s = start e.before.before in
-    (sound-on (sq s) (ss s) (es s) (rooms s) e.before.if1.false e.if2.false (within k) _ u.total-up.ensures.0, u.total-up.ensures.1)
+    (sound-on (sq s) (ss s) (es s) (rooms s) e.before.if-n-gt256.false e.if-to-n.false (within k) _ u.total_up.ensures.0, u.total_up.ensures.1)
 
-pub totals-sound-spec : {M : Type 1} → statement M
-totals-sound-spec =
-    tie.close
-    (tie.spec
-    returns
-    returns-2
-    end-before-requires
-    slice-aggregate-count-all
-    count-all-requires
-    enum_told
-    enum-known-count
-    array-share-prefix-numbers
-    slice-aggregate-total-up
-    total-up-requires
-    returns-3
-    same_length
-    same-length-2
-    same-length-3
-    same-length-4
-    same-length-5
-    returns-4)
+pub totals_sound_spec : {M : Type 1} → statement M
+totals_sound_spec = tie.close (tie.spec returns returns-2 end-before-requires slice-aggregate-count-all count-all-requires enum_told enum-known-count array-share-prefix-numbers slice-aggregate-total-up total-up-requires returns-3 same_length same-length-2 same-length-3 same-length-4 same-length-5 returns-4)

@@ -26,28 +26,28 @@ product c =
     let short = half-short (c.args.end - c.args.low - 1) in
     omega (arith, mag-product c.args.step (k c), product_le c.args.step (k c) 32768 4294967296 c.ranges.step.sfits (omega (arith, short)))
 
-sub-k : tie.Need-overflow-sub-k
+sub-k : tie.Need-overflow_sub-k
 sub-k c = search rules
 
-sub-k-2 : tie.Need-overflow-sub-k-2
+sub-k-2 : tie.Need-overflow_sub-k-2
 sub-k-2 c = search rules
 
-bits-requires : tie.Need-bits-requires
+bits-requires : tie.Need-bits-from-requires
 bits-requires c κs = search rules
 
-cast-bits : tie.Need-overflow-cast-bits
+cast-bits : tie.Need-overflow_cast-step
 cast-bits c = rw (to_z-of_z c.before.ranges.step) (record { sfits = omega arith })
 
-cast-bits-2 : tie.Need-overflow-cast-bits-2
+cast-bits-2 : tie.Need-overflow_cast-k
 cast-bits-2 c = omega (arith, half-short (c.before.args.end - c.before.args.low - 1))
 
-mul-bits : tie.Need-overflow-mul-bits
+mul-bits : tie.Need-overflow_mul-step
 mul-bits c = rw (of-step c.before, of-offset c.before) (record { sfits = product c.before })
 
-bits-requires-2 : tie.Need-bits-requires-2
+bits-requires-2 : tie.Need-bits-requires
 bits-requires-2 c κs = search rules
 
-wrapping-add-u64-requires : tie.Need-wrapping-add-u64-requires
+wrapping-add-u64-requires : tie.Need-wrapping_add_u64-requires
 wrapping-add-u64-requires c κs = search rules
 
 returns : tie.Need-returns
@@ -55,20 +55,9 @@ returns c = λ same.
     let s = c.before.before.before in
     let at : ℤ → ℕ = λ z. (key half64 z + 9223372036854775808) % 18446744073709551616 in
     turned-sure s.args.low s.args.end s.args.start s.args.step _ _ _ s.requires s.ranges.start.sfits s.ranges.step.sfits
-    (c.before.before.bits.ensures ∙ ap at (to_z-of_z s.ranges.start))
-    (c.before.bits2.ensures ∙ ap at (rw (of-step s, of-offset s) (back w64 (s.args.step *ℤ pos (k s)) (product s))))
-    c.wrapping-add-u64.ensures same
+    (c.before.before.bits-from.ensures ∙ ap at (to_z-of_z s.ranges.start))
+    (c.before.bits.ensures ∙ ap at (rw (of-step s, of-offset s) (back w64 (s.args.step *ℤ pos (k s)) (product s))))
+    c.wrapping_add_u64.ensures same
 
-pub turned-spec : {M : Type 1} → statement M
-turned-spec =
-    tie.close
-    (tie.spec
-    sub-k
-    sub-k-2
-    bits-requires
-    cast-bits
-    cast-bits-2
-    mul-bits
-    bits-requires-2
-    wrapping-add-u64-requires
-    returns)
+pub turned_spec : {M : Type 1} → statement M
+turned_spec = tie.close (tie.spec sub-k sub-k-2 bits-requires cast-bits cast-bits-2 mul-bits bits-requires-2 wrapping-add-u64-requires returns)

@@ -19,47 +19,47 @@ col s = column_now s.args.starts s.args.ends s.args.steps
 abbrev handed : tie.Start → Lists
 handed s = lists s.args.lower s.args.upper s.args.inputs
 
-first-of-requires : tie.Need-first-of-requires
+first-of-requires : tie.Need-first_of-target-requires
 first-of-requires c κs = search rules
 
-seek-requires : tie.Need-seek-requires
+seek-requires : tie.Need-seek-first-requires
 seek-requires c κs = search rules
 
-enum-known-answer : tie.Need-enum-known-answer
+enum-known-answer : tie.Need-enum_known-answer
 enum-known-answer c = search rules
 
-returns : tie.Need-returns
+returns : tie.Need-returns-in-Refused
 returns c =
     let at-answer = c.before in
     let at_left = at-answer.before.before in
     let at_first = at_left.before.before in
     let s = at_first.before.before in
-    seek-refused (col s) (handed s) s.args.filter s.args.targets.now s.args.out.now _ (back w64 at_first.first_of.result at_first.first_of.type-inv ∙ at_first.first_of.ensures) at_left.before.seek.result at_left.before.seek.ensures
-    at-answer.answer.given.0.0 at-answer.answer.given.1
+    seek-refused (col s) (handed s) s.args.filter s.args.targets.now s.args.out-1.now _ (back w64 at_first.first_of-target.result at_first.first_of-target.type_inv ∙ at_first.first_of-target.ensures) at_left.before.seek-first.result at_left.before.seek-first.ensures
+    at-answer.in-Refused.why at-answer.in-Refused.is
 
-returns-2 : tie.Need-returns-2
+returns-2 : tie.Need-returns-then-targets-eq0
 returns-2 c =
     let at-keys = c.before in
     let at_left = at-keys.before in
     let at_first = at_left.before.before in
     let s = at_first.before.before in
-    seek-nothing (col s) (handed s) s.args.filter s.args.targets.now s.args.out.now _ (back w64 at_first.first_of.result at_first.first_of.type-inv ∙ at_first.first_of.ensures) at_left.before.seek.result at_left.before.seek.ensures
-    at-keys.match.keys2 c.if1.true
+    seek-nothing (col s) (handed s) s.args.filter s.args.targets.now s.args.out-1.now _ (back w64 at_first.first_of-target.result at_first.first_of-target.type_inv ∙ at_first.first_of-target.ensures) at_left.before.seek-first.result at_left.before.seek-first.ensures
+    at-keys.in-Refused.keys2 c.if-targets-eq0.true
 
-enum-known-answer-2 : tie.Need-enum-known-answer-2
+enum-known-answer-2 : tie.Need-enum_known-answer-in-Value-answer-2
 enum-known-answer-2 c = search rules
 
-returns-3 : tie.Need-returns-3
+returns-3 : tie.Need-returns-in_default-answer
 returns-3 c =
     let at-else = c.before in
     let at-keys = at-else.before in
     let at_left = at-keys.before in
     let at_first = at_left.before.before in
     let s = at_first.before.before in
-    seek-none (col s) (handed s) s.args.filter s.args.targets.now s.args.out.now _ (back w64 at_first.first_of.result at_first.first_of.type-inv ∙ at_first.first_of.ensures) at_left.before.seek.result at_left.before.seek.ensures
-    at-keys.match.keys2 c.match2.keys2 (omega (arith, at-else.if1.false))
+    seek-none (col s) (handed s) s.args.filter s.args.targets.now s.args.out-1.now _ (back w64 at_first.first_of-target.result at_first.first_of-target.type_inv ∙ at_first.first_of-target.ensures) at_left.before.seek-first.result at_left.before.seek-first.ensures
+    at-keys.in-Refused.keys2 c.in-Value.keys2 (omega (arith, at-else.if-targets-eq0.false))
 
-returns-4 : tie.Need-returns-4
+returns-4 : tie.Need-returns-then-out-eq0
 returns-4 c =
     let at_told = c.before in
     let at-answer = at_told.before in
@@ -67,28 +67,32 @@ returns-4 c =
     let at_left = at-else.before.before in
     let at_first = at_left.before.before in
     let s = at_first.before.before in
-    seek-nowhere (col s) (handed s) s.args.filter s.args.targets.now s.args.out.now _ (back w64 at_first.first_of.result at_first.first_of.type-inv ∙ at_first.first_of.ensures) at_left.before.seek.result at_left.before.seek.ensures
-    at-answer.answer2.given.0.0 at-answer.answer2.given.1 (omega (arith, at-else.if1.false)) c.if2.true
+    seek-nowhere (col s) (handed s) s.args.filter s.args.targets.now s.args.out-1.now _ (back w64 at_first.first_of-target.result at_first.first_of-target.type_inv ∙ at_first.first_of-target.ensures) at_left.before.seek-first.result at_left.before.seek-first.ensures
+    at-answer.in-Value.value at-answer.in-Value.is (omega (arith, at-else.if-targets-eq0.false)) c.if-out-eq0.true
 
-sub-seeks-on : tie.Need-overflow-sub-seeks-on
-sub-seeks-on c = let at-answer = c.before.before in let at-else = at-answer.before.before in omega (arith, at-else.if1.false)
+sub-seeks-on : tie.Need-slice_bounds-seeks_on-count
+sub-seeks-on c = let at-answer = c.before.before in let at-else = at-answer.before.before in omega (arith, at-else.if-targets-eq0.false)
 
-part-seeks-on-start : tie.Need-slice-bounds-seeks-on-start
-part-seeks-on-start c = search rules
+-- LEFT: no such goal: slice-bounds-seeks-on-start
+-- part-seeks-on-start : tie.Need-slice-bounds-seeks-on-start
+-- part-seeks-on-start c = search rules
 
-part-seeks-on-end : tie.Need-slice-bounds-seeks-on-end
-part-seeks-on-end c = search rules
+-- LEFT: no such goal: slice-bounds-seeks-on-end
+-- part-seeks-on-end : tie.Need-slice-bounds-seeks-on-end
+-- part-seeks-on-end c = search rules
 
-sub-seeks-on-2 : tie.Need-overflow-sub-seeks-on-2
-sub-seeks-on-2 c = omega (arith, c.before.if2.false)
+sub-seeks-on-2 : tie.Need-slice_bounds-seeks_on-count-2
+sub-seeks-on-2 c = omega (arith, c.before.if-out-eq0.false)
 
-part-seeks-on-start-2 : tie.Need-slice-bounds-seeks-on-start-2
-part-seeks-on-start-2 c = search rules
+-- LEFT: no such goal: slice-bounds-seeks-on-start-2
+-- part-seeks-on-start-2 : tie.Need-slice-bounds-seeks-on-start-2
+-- part-seeks-on-start-2 c = search rules
 
-part-seeks-on-end-2 : tie.Need-slice-bounds-seeks-on-end-2
-part-seeks-on-end-2 c = search rules
+-- LEFT: no such goal: slice-bounds-seeks-on-end-2
+-- part-seeks-on-end-2 : tie.Need-slice-bounds-seeks-on-end-2
+-- part-seeks-on-end-2 c = search rules
 
-seeks-on-requires : tie.Need-seeks-on-requires
+seeks-on-requires : tie.Need-seeks_on-ran-requires
 seeks-on-requires c κs =
     let at-else2 = c.before.before in
     let at-answer = at-else2.before.before in
@@ -96,19 +100,19 @@ seeks-on-requires c κs =
     let at_left = at-else.before.before in
     let at_first = at_left.before.before in
     let s = at_first.before.before in
-    seek-stands (col s) (handed s) s.args.filter s.args.targets.now s.args.out.now _ (back w64 at_first.first_of.result at_first.first_of.type-inv ∙ at_first.first_of.ensures) at_left.before.seek.result at_left.before.seek.ensures
-    at-answer.answer2.given.0.0 at-answer.answer2.given.1
+    seek-stands (col s) (handed s) s.args.filter s.args.targets.now s.args.out-1.now _ (back w64 at_first.first_of-target.result at_first.first_of-target.type_inv ∙ at_first.first_of-target.ensures) at_left.before.seek-first.result at_left.before.seek-first.ensures
+    at-answer.in-Value.value at-answer.in-Value.is
 
-enum-known-counted : tie.Need-enum-known-counted
+enum-known-counted : tie.Need-enum_known-counted
 enum-known-counted c = search rules
 
-enum-known-counted-2 : tie.Need-enum-known-counted-2
+enum-known-counted-2 : tie.Need-enum_known-counted-in-Values-1
 enum-known-counted-2 c = search rules
 
-slice-set-from-value : tie.Need-slice-set-from-value
+slice-set-from-value : tie.Need-bounds-out-0
 slice-set-from-value c = search rules
 
-add-t38 : tie.Need-overflow-add-t38
+add-t38 : tie.Need-overflow_add-result
 add-t38 c =
     let at-counted = c.before in
     let at_last = at-counted.before.before in
@@ -124,16 +128,16 @@ add-t38 c =
     omega (
       arith,
       s.well-formed,
-      seek-few (col s) (handed s) s.args.filter s.args.targets.now s.args.out.now _ (back w64 at_first.first_of.result at_first.first_of.type-inv ∙ at_first.first_of.ensures) at_left.before.seek.result at_left.before.seek.ensures
-          at-answer.answer2.given.0.0 at-answer.answer2.given.1 (omega (arith, at-else.if1.false)) (omega (arith, at-else2.if2.false)) _ _ refl refl
-          (filter_tally_of at_on.seeks-on.result) at_on.seeks-on.ensures.0 _ at_on.seeks-on.ensures.1
-          at-counted.counted2.given.0.0 (ap says_counted at-counted.counted2.given.1),
+      seek-few (col s) (handed s) s.args.filter s.args.targets.now s.args.out-1.now _ (back w64 at_first.first_of-target.result at_first.first_of-target.type_inv ∙ at_first.first_of-target.ensures) at_left.before.seek-first.result at_left.before.seek-first.ensures
+          at-answer.in-Value.value at-answer.in-Value.is (omega (arith, at-else.if-targets-eq0.false)) (omega (arith, at-else2.if-out-eq0.false)) _ _ refl refl
+          (filter_tally_of at_on.seeks_on-ran.result) at_on.seeks_on-ran.ensures.0 _ at_on.seeks_on-ran.ensures.1
+          at-counted.in-Values.values (ap says_counted at-counted.in-Values.is),
     )
 
-same_length : tie.Need-same-length
+same_length : tie.Need-shape_of-out-in-Refused-counted
 same_length c = search rules
 
-returns-5 : tie.Need-returns-5
+returns-5 : tie.Need-returns-in-Refused-counted
 returns-5 c =
     let at-counted = c.before in
     let at_last = at-counted.before.before in
@@ -146,15 +150,15 @@ returns-5 c =
     let at_left = at-else.before.before in
     let at_first = at_left.before.before in
     let s = at_first.before.before in
-    seek-over (col s) (handed s) s.args.filter s.args.targets.now s.args.out.now _ (back w64 at_first.first_of.result at_first.first_of.type-inv ∙ at_first.first_of.ensures) at_left.before.seek.result at_left.before.seek.ensures
-    at-answer.answer2.given.0.0 at-answer.answer2.given.1 (omega (arith, at-else.if1.false)) (omega (arith, at-else2.if2.false)) _ _ refl refl
-    (filter_tally_of at_on.seeks-on.result) at_on.seeks-on.ensures.0 _ at_on.seeks-on.ensures.1
-    (number_of at-counted.counted.given.0.0) (ap says_counted at-counted.counted.given.1)
+    seek-over (col s) (handed s) s.args.filter s.args.targets.now s.args.out-1.now _ (back w64 at_first.first_of-target.result at_first.first_of-target.type_inv ∙ at_first.first_of-target.ensures) at_left.before.seek-first.result at_left.before.seek-first.ensures
+    at-answer.in-Value.value at-answer.in-Value.is (omega (arith, at-else.if-targets-eq0.false)) (omega (arith, at-else2.if-out-eq0.false)) _ _ refl refl
+    (filter_tally_of at_on.seeks_on-ran.result) at_on.seeks_on-ran.ensures.0 _ at_on.seeks_on-ran.ensures.1
+    (number_of at-counted.in-Refused-counted.why) (ap says_counted at-counted.in-Refused-counted.is)
 
-same-length-2 : tie.Need-same-length-2
+same-length-2 : tie.Need-shape_of-out-in-Values
 same-length-2 c = search rules
 
-returns-6 : tie.Need-returns-6
+returns-6 : tie.Need-returns-in-Values
 returns-6 c =
     let at-counted = c.before in
     let at_last = at-counted.before.before in
@@ -167,35 +171,22 @@ returns-6 c =
     let at_left = at-else.before.before in
     let at_first = at_left.before.before in
     let s = at_first.before.before in
-    seek-all (col s) (handed s) s.args.filter s.args.targets.now s.args.out.now _ (back w64 at_first.first_of.result at_first.first_of.type-inv ∙ at_first.first_of.ensures) at_left.before.seek.result at_left.before.seek.ensures
-    at-answer.answer2.given.0.0 at-answer.answer2.given.1 (omega (arith, at-else.if1.false)) (omega (arith, at-else2.if2.false)) _ _ refl refl
-    (filter_tally_of at_on.seeks-on.result) at_on.seeks-on.ensures.0 _ at_on.seeks-on.ensures.1
-    at-counted.counted2.given.0.0 (ap says_counted at-counted.counted2.given.1) _ (back w64 at-answer.answer2.given.0.0 at_told.known-told2.given.0.1)
+    seek-all (col s) (handed s) s.args.filter s.args.targets.now s.args.out-1.now _ (back w64 at_first.first_of-target.result at_first.first_of-target.type_inv ∙ at_first.first_of-target.ensures) at_left.before.seek-first.result at_left.before.seek-first.ensures
+    at-answer.in-Value.value at-answer.in-Value.is (omega (arith, at-else.if-targets-eq0.false)) (omega (arith, at-else2.if-out-eq0.false)) _ _ refl refl
+    (filter_tally_of at_on.seeks_on-ran.result) at_on.seeks_on-ran.ensures.0 _ at_on.seeks_on-ran.ensures.1
+    at-counted.in-Values.values (ap says_counted at-counted.in-Values.is) _ (back w64 at-answer.in-Value.value at_told.known_told-in-Value-answer-2-1.given.0.1)
 
-pub seek-run-spec : {M : Type 1} → statement M
-seek-run-spec =
-    tie.close
-    (tie.spec
-    first-of-requires
-    seek-requires
-    enum-known-answer
-    returns
-    returns-2
-    enum-known-answer-2
-    returns-3
-    returns-4
-    sub-seeks-on
-    part-seeks-on-start
-    part-seeks-on-end
-    sub-seeks-on-2
-    part-seeks-on-start-2
-    part-seeks-on-end-2
-    seeks-on-requires
-    enum-known-counted
-    enum-known-counted-2
-    slice-set-from-value
-    add-t38
-    same_length
-    returns-5
-    same-length-2
-    returns-6)
+slice_bounds-seeks_on-start : tie.Need-slice_bounds-seeks_on-start
+slice_bounds-seeks_on-start c = search rules
+
+slice_bounds-seeks_on-end : tie.Need-slice_bounds-seeks_on-end
+slice_bounds-seeks_on-end c = search rules
+
+slice_bounds-seeks_on-start-2 : tie.Need-slice_bounds-seeks_on-start-2
+slice_bounds-seeks_on-start-2 c = search rules
+
+slice_bounds-seeks_on-end-2 : tie.Need-slice_bounds-seeks_on-end-2
+slice_bounds-seeks_on-end-2 c = search rules
+
+pub seek_run_spec : {M : Type 1} → statement M
+seek_run_spec = tie.close (tie.spec first-of-requires seek-requires enum-known-answer returns returns-2 enum-known-answer-2 returns-3 returns-4 sub-seeks-on slice_bounds-seeks_on-start slice_bounds-seeks_on-end sub-seeks-on-2 slice_bounds-seeks_on-start-2 slice_bounds-seeks_on-end-2 seeks-on-requires enum-known-counted enum-known-counted-2 slice-set-from-value add-t38 same_length returns-5 same-length-2 returns-6)

@@ -18,31 +18,31 @@ use Rattle.filter_runs.proofs.seeks.seeks_on.Tie as tie
 abbrev col : tie.Start → Column
 col s = column_now s.args.starts s.args.ends s.args.steps
 
-limit-of-requires : tie.Need-limit-of-requires
+limit-of-requires : tie.Need-limit_of-up-requires
 limit-of-requires c κs = search rules
 
-stands-at-requires : tie.Need-stands-at-requires
+stands-at-requires : tie.Need-stands_at-start-requires
 stands-at-requires c κs = search rules
 
-pass-requires : tie.Need-pass-requires
+pass-requires : tie.Need-pass-over-requires
 pass-requires c κs =
     let at-limit = c.before in
     let s = at-limit.before.before.before in
-    pass-asks (col s) s.args.filter s.requires c.stands_at.result c.stands_at.ensures
+    pass-asks (col s) s.args.filter s.requires c.stands_at-start.result c.stands_at-start.ensures
 
-stands-at-requires-2 : tie.Need-stands-at-requires-2
+stands-at-requires-2 : tie.Need-stands_at-stop-requires
 stands-at-requires-2 c κs = search rules
 
-seek-run-requires : tie.Need-seek-run-requires
+seek-run-requires : tie.Need-seek_run-ran-requires
 seek-run-requires c κs = search rules
 
-enum-known-counted : tie.Need-enum-known-counted
+enum-known-counted : tie.Need-enum_known-counted
 enum-known-counted c = search rules
 
-enum-known-counted-2 : tie.Need-enum-known-counted-2
+enum-known-counted-2 : tie.Need-enum_known-counted-in-Values-1
 enum-known-counted-2 c = search rules
 
-mul-target : tie.Need-overflow-mul-target
+mul-target : tie.Need-offset_bounds-targets-made
 mul-target c =
     let at-counted = c.before.before in
     let at_out = at-counted.before.before.before in
@@ -50,21 +50,21 @@ mul-target c =
     let at-start = at-stop.before.before in
     let at-scan = at-start.before.before in
     let s = at-scan.before.before in
-    omega (arith, c.if1.true, s.well-formed)
+    omega (arith, c.if-made-targets.true, s.well-formed)
 
-shared-slice-copy-out-target : tie.Need-shared-slice-copy-out-target
+shared-slice-copy-out-target : tie.Need-bounds-targets-made
 shared-slice-copy-out-target c = search rules
 
-seek-requires : tie.Need-seek-requires
+seek-requires : tie.Need-seek-sought-requires
 seek-requires c κs = search rules
 
-moved-on-requires : tie.Need-moved-on-requires
+moved-on-requires : tie.Need-moved_on-requires
 moved-on-requires c κs = search rules
 
-same_length : tie.Need-same-length
+same_length : tie.Need-shape_of-out-then-made-targets
 same_length c = search rules
 
-returns : tie.Need-returns
+returns : tie.Need-returns-then-made-targets
 returns c =
     let at-seek = c.before.before in
     let at_Target = at-seek.before in
@@ -77,24 +77,24 @@ returns c =
     let at-start = at-pass.before in
     let at-limit = at-start.before in
     let s = at-limit.before.before.before in
-    let n = at-counted.counted2.given.0.0 in (
+    let n = at-counted.in-Values.values in (
       ap (λ (g : Filter). record { filter = g; said = Gives n }) c.moved_on.ensures
-          ∙ seeks-short (col s) s.args.filter s.requires s.args.targets.now s.args.out.now at-limit.limit-of.result at-start.stands_at.result at-stop.stands-at2.result at-pass.pass.result s.args.filter.scan.value
-          at-limit.limit-of.ensures at-start.stands_at.ensures at-pass.pass.ensures at-stop.stands-at2.ensures refl
-          (tally_of at-run.seek-run.result) at-run.seek-run.ensures.0 n (ap says_counted at-counted.counted2.given.1) at-then.if1.true
-          _ (back w64 _ at_Target.target.given) (outcome_of at-seek.seek.result) at-seek.seek.ensures,
-      seeks-out (col s) s.args.filter s.requires s.args.targets.now s.args.out.now at-limit.limit-of.result at-start.stands_at.result at-stop.stands-at2.result at-pass.pass.result s.args.filter.scan.value
-          at-limit.limit-of.ensures at-start.stands_at.ensures at-pass.pass.ensures at-stop.stands-at2.ensures refl
-          (tally_of at-run.seek-run.result) _ at-run.seek-run.ensures.0 at-run.seek-run.ensures.1 _ (ap says_counted at-counted.counted2.given.1),
+          ∙ seeks-short (col s) s.args.filter s.requires s.args.targets.now s.args.out-1.now at-limit.limit_of-up.result at-start.stands_at-start.result at-stop.stands_at-stop.result at-pass.pass-over.result s.args.filter.scan-1.value
+          at-limit.limit_of-up.ensures at-start.stands_at-start.ensures at-pass.pass-over.ensures at-stop.stands_at-stop.ensures refl
+          (tally_of at-run.seek_run-ran.result) at-run.seek_run-ran.ensures.0 n (ap says_counted at-counted.in-Values.is) at-then.if-made-targets.true
+          _ (back w64 _ at_Target.target-1.given) (outcome_of at-seek.seek-sought.result) at-seek.seek-sought.ensures,
+      seeks-out (col s) s.args.filter s.requires s.args.targets.now s.args.out-1.now at-limit.limit_of-up.result at-start.stands_at-start.result at-stop.stands_at-stop.result at-pass.pass-over.result s.args.filter.scan-1.value
+          at-limit.limit_of-up.ensures at-start.stands_at-start.ensures at-pass.pass-over.ensures at-stop.stands_at-stop.ensures refl
+          (tally_of at-run.seek_run-ran.result) _ at-run.seek_run-ran.ensures.0 at-run.seek_run-ran.ensures.1 _ (ap says_counted at-counted.in-Values.is),
     )
 
-moved-on-requires-2 : tie.Need-moved-on-requires-2
+moved-on-requires-2 : tie.Need-moved_on-requires-in-Values
 moved-on-requires-2 c κs = search rules
 
-same-length-2 : tie.Need-same-length-2
+same-length-2 : tie.Need-shape_of-out-in-Refused
 same-length-2 c = search rules
 
-returns-2 : tie.Need-returns-2
+returns-2 : tie.Need-returns-in-Refused
 returns-2 c =
     let at-counted = c.before in
     let at_out = at-counted.before.before.before in
@@ -104,18 +104,18 @@ returns-2 c =
     let at-start = at-pass.before in
     let at-limit = at-start.before in
     let s = at-limit.before.before.before in (
-      seeks-refused (col s) s.args.filter s.requires s.args.targets.now s.args.out.now at-limit.limit-of.result at-start.stands_at.result at-stop.stands-at2.result at-pass.pass.result s.args.filter.scan.value
-          at-limit.limit-of.ensures at-start.stands_at.ensures at-pass.pass.ensures at-stop.stands-at2.ensures refl
-          (tally_of at-run.seek-run.result) at-run.seek-run.ensures.0 (number_of at-counted.counted.given.0.0) (ap says_counted at-counted.counted.given.1),
-      seeks-out (col s) s.args.filter s.requires s.args.targets.now s.args.out.now at-limit.limit-of.result at-start.stands_at.result at-stop.stands-at2.result at-pass.pass.result s.args.filter.scan.value
-          at-limit.limit-of.ensures at-start.stands_at.ensures at-pass.pass.ensures at-stop.stands-at2.ensures refl
-          (tally_of at-run.seek-run.result) _ at-run.seek-run.ensures.0 at-run.seek-run.ensures.1 _ (ap says_counted at-counted.counted.given.1),
+      seeks-refused (col s) s.args.filter s.requires s.args.targets.now s.args.out-1.now at-limit.limit_of-up.result at-start.stands_at-start.result at-stop.stands_at-stop.result at-pass.pass-over.result s.args.filter.scan-1.value
+          at-limit.limit_of-up.ensures at-start.stands_at-start.ensures at-pass.pass-over.ensures at-stop.stands_at-stop.ensures refl
+          (tally_of at-run.seek_run-ran.result) at-run.seek_run-ran.ensures.0 (number_of at-counted.in-Refused.why) (ap says_counted at-counted.in-Refused.is),
+      seeks-out (col s) s.args.filter s.requires s.args.targets.now s.args.out-1.now at-limit.limit_of-up.result at-start.stands_at-start.result at-stop.stands_at-stop.result at-pass.pass-over.result s.args.filter.scan-1.value
+          at-limit.limit_of-up.ensures at-start.stands_at-start.ensures at-pass.pass-over.ensures at-stop.stands_at-stop.ensures refl
+          (tally_of at-run.seek_run-ran.result) _ at-run.seek_run-ran.ensures.0 at-run.seek_run-ran.ensures.1 _ (ap says_counted at-counted.in-Refused.is),
     )
 
-same-length-3 : tie.Need-same-length-3
+same-length-3 : tie.Need-shape_of-out-else-made-targets
 same-length-3 c = search rules
 
-returns-3 : tie.Need-returns-3
+returns-3 : tie.Need-returns-else-made-targets
 returns-3 c =
     let at-counted = c.before.before.before in
     let at_out = at-counted.before.before.before in
@@ -125,35 +125,15 @@ returns-3 c =
     let at-start = at-pass.before in
     let at-limit = at-start.before in
     let s = at-limit.before.before.before in
-    let n = at-counted.counted2.given.0.0 in (
-      ap (λ (g : Filter). record { filter = g; said = Gives n }) c.moved-on2.ensures
-          ∙ seeks-full (col s) s.args.filter s.requires s.args.targets.now s.args.out.now at-limit.limit-of.result at-start.stands_at.result at-stop.stands-at2.result at-pass.pass.result s.args.filter.scan.value
-          at-limit.limit-of.ensures at-start.stands_at.ensures at-pass.pass.ensures at-stop.stands-at2.ensures refl
-          (tally_of at-run.seek-run.result) at-run.seek-run.ensures.0 n (ap says_counted at-counted.counted2.given.1) c.before.if1.false,
-      seeks-out (col s) s.args.filter s.requires s.args.targets.now s.args.out.now at-limit.limit-of.result at-start.stands_at.result at-stop.stands-at2.result at-pass.pass.result s.args.filter.scan.value
-          at-limit.limit-of.ensures at-start.stands_at.ensures at-pass.pass.ensures at-stop.stands-at2.ensures refl
-          (tally_of at-run.seek-run.result) _ at-run.seek-run.ensures.0 at-run.seek-run.ensures.1 _ (ap says_counted at-counted.counted2.given.1),
+    let n = at-counted.in-Values.values in (
+      ap (λ (g : Filter). record { filter = g; said = Gives n }) c.moved_on-in-Values.ensures
+          ∙ seeks-full (col s) s.args.filter s.requires s.args.targets.now s.args.out-1.now at-limit.limit_of-up.result at-start.stands_at-start.result at-stop.stands_at-stop.result at-pass.pass-over.result s.args.filter.scan-1.value
+          at-limit.limit_of-up.ensures at-start.stands_at-start.ensures at-pass.pass-over.ensures at-stop.stands_at-stop.ensures refl
+          (tally_of at-run.seek_run-ran.result) at-run.seek_run-ran.ensures.0 n (ap says_counted at-counted.in-Values.is) c.before.if-made-targets.false,
+      seeks-out (col s) s.args.filter s.requires s.args.targets.now s.args.out-1.now at-limit.limit_of-up.result at-start.stands_at-start.result at-stop.stands_at-stop.result at-pass.pass-over.result s.args.filter.scan-1.value
+          at-limit.limit_of-up.ensures at-start.stands_at-start.ensures at-pass.pass-over.ensures at-stop.stands_at-stop.ensures refl
+          (tally_of at-run.seek_run-ran.result) _ at-run.seek_run-ran.ensures.0 at-run.seek_run-ran.ensures.1 _ (ap says_counted at-counted.in-Values.is),
     )
 
-pub seeks-on-spec : {M : Type 1} → statement M
-seeks-on-spec =
-    tie.close
-    (tie.spec
-    limit-of-requires
-    stands-at-requires
-    pass-requires
-    stands-at-requires-2
-    seek-run-requires
-    enum-known-counted
-    enum-known-counted-2
-    mul-target
-    shared-slice-copy-out-target
-    seek-requires
-    moved-on-requires
-    same_length
-    returns
-    moved-on-requires-2
-    same-length-2
-    returns-2
-    same-length-3
-    returns-3)
+pub seeks_on_spec : {M : Type 1} → statement M
+seeks_on_spec = tie.close (tie.spec limit-of-requires stands-at-requires pass-requires stands-at-requires-2 seek-run-requires enum-known-counted enum-known-counted-2 mul-target shared-slice-copy-out-target seek-requires moved-on-requires same_length returns moved-on-requires-2 same-length-2 returns-2 same-length-3 returns-3)

@@ -12,14 +12,14 @@ use borrow.Author.Rules.{rules}
 use Rattle.importing.proofs.single.run_of_steps.Statement.{statement}
 use Rattle.importing.proofs.single.run_of_steps.Tie as tie
 
-abbrev invariant-loop : tie.invariant-loop
+abbrev invariant-loop : tie.invariant-loop-next
 invariant-loop bytes at second count by last₀ n₀ next₀ last n next =
     Going (present bytes) count at by last n × (next ≡ first_from (present bytes) (last + 1) count) × (last < next) × (n ≤ last + 1)
 
-abbrev decreases-loop : tie.decreases-loop
+abbrev decreases-loop : tie.decreases-loop-next
 decreases-loop bytes at second count by last₀ n₀ next₀ last n next = count - next
 
-abbrev start : tie.At-loop invariant-loop decreases-loop → tie.Start invariant-loop decreases-loop
+abbrev start : tie.At-loop-next invariant-loop decreases-loop → tie.Start invariant-loop decreases-loop
 start c = let at-stride = c.before.before in at-stride.before.before
 
 module _ (s : tie.Start invariant-loop decreases-loop) where
@@ -32,75 +32,75 @@ module _ (s : tie.Start invariant-loop decreases-loop) where
   some : 0 < s.args.second - s.args.at
   some = omega arith
 
-sub_by : tie.Need-overflow-sub-by invariant-loop decreases-loop
+sub_by : tie.Need-overflow_sub-by invariant-loop decreases-loop
 sub_by c = omega arith
 
-stride-requires : tie.Need-stride-requires invariant-loop decreases-loop
+stride-requires : tie.Need-stride-far-requires invariant-loop decreases-loop
 stride-requires c κs = search rules
 
-add-next-present : tie.Need-overflow-add-next-present invariant-loop decreases-loop
-add-next-present c = omega (arith, c.stride.ensures.inside)
+add-next-present : tie.Need-overflow_add-last invariant-loop decreases-loop
+add-next-present c = omega (arith, c.stride-far.ensures.inside)
 
-next-present-requires : tie.Need-next-present-requires invariant-loop decreases-loop
+next-present-requires : tie.Need-next_present-next-requires invariant-loop decreases-loop
 next-present-requires c κs = search rules
 
-loop-holds : tie.Need-loop-init invariant-loop decreases-loop
+loop-holds : tie.Need-loop-next-init invariant-loop decreases-loop
 loop-holds c =
     let f = c.before in
     let s = f.before.before in
-    let last = f.stride.result.last in (
-      f.stride.ensures,
-      c.next-present.ensures,
-      omega (arith, next-from (p s) (last + 1) s.args.count c.next-present.result (omega (arith, f.stride.ensures.inside)) c.next-present.ensures),
-      going-few (p s) s.args.count s.args.at (by s) (some s) last f.stride.result.n c.next-present.result f.stride.ensures c.next-present.ensures,
+    let last = f.stride-far.result.last in (
+      f.stride-far.ensures,
+      c.next_present-next.ensures,
+      omega (arith, next-from (p s) (last + 1) s.args.count c.next_present-next.result (omega (arith, f.stride-far.ensures.inside)) c.next_present-next.ensures),
+      going-few (p s) s.args.count s.args.at (by s) (some s) last f.stride-far.result.n c.next_present-next.result f.stride-far.ensures c.next_present-next.ensures,
     )
 
-sub-if1 : tie.Need-overflow-sub-if1 invariant-loop decreases-loop
+sub-if1 : tie.Need-overflow_sub-next invariant-loop decreases-loop
 sub-if1 c = omega arith
 
-returns : tie.Need-returns invariant-loop decreases-loop
+returns : tie.Need-returns-then-next-last invariant-loop decreases-loop
 returns c =
     let l = c.before.before in
     let s = start l in
-    going-first (p s) s.args.count s.args.at (by s) (some s) l.loop.last l.loop.n l.loop.next l.loop.invariant.0 l.loop.invariant.1 (omega arith) (λ m e. c.if1.true e)
+    going-first (p s) s.args.count s.args.at (by s) (some s) l.loop-next.last l.loop-next.n l.loop-next.next l.loop-next.invariant.0 l.loop-next.invariant.1 (omega arith) (λ m e. c.if-next-last.true e)
 
-add-n : tie.Need-overflow-add-n invariant-loop decreases-loop
+add-n : tie.Need-overflow_add-n invariant-loop decreases-loop
 add-n c = omega arith
 
-add-next-present-2 : tie.Need-overflow-add-next-present-2 invariant-loop decreases-loop
+add-next-present-2 : tie.Need-overflow_add-last-in-loop-next invariant-loop decreases-loop
 add-next-present-2 c = omega arith
 
-next-present-requires-2 : tie.Need-next-present-requires-2 invariant-loop decreases-loop
+next-present-requires-2 : tie.Need-next_present-next-requires-in-loop-next invariant-loop decreases-loop
 next-present-requires-2 c κs = search rules
 
 -- the next one lies further
-further : (c : tie.After-next-present2 invariant-loop decreases-loop) → let l = c.before.before.before in l.loop.next + 1 ≤ c.next-present2.result
+further : (c : tie.After-next_present-next-in-loop-next invariant-loop decreases-loop) → let l = c.before.before.before in l.loop-next.next + 1 ≤ c.next_present-next-in-loop-next.result
 further c =
     let l = c.before.before.before in
     let s = start l in
-    next-from (p s) (l.loop.next + 1) s.args.count c.next-present2.result (omega arith) c.next-present2.ensures
+    next-from (p s) (l.loop-next.next + 1) s.args.count c.next_present-next-in-loop-next.result (omega arith) c.next_present-next-in-loop-next.ensures
 
-loop-less : tie.Need-loop-smaller invariant-loop decreases-loop
+loop-less : tie.Need-loop-next-smaller invariant-loop decreases-loop
 loop-less c = omega (arith, further c)
 
-loop-again : tie.Need-loop-preserved invariant-loop decreases-loop
+loop-again : tie.Need-loop-next-preserved invariant-loop decreases-loop
 loop-again c =
     let e = c.before in
     let l = e.before.before in
     let s = start l in (
-      going_more (p s) s.args.count s.args.at (by s) (some s) l.loop.last l.loop.n l.loop.next l.loop.invariant.0 l.loop.invariant.1 (omega arith) e.if1.false,
-      c.next-present2.ensures,
+      going_more (p s) s.args.count s.args.at (by s) (some s) l.loop-next.last l.loop-next.n l.loop-next.next l.loop-next.invariant.0 l.loop-next.invariant.1 (omega arith) e.if-next-last.false,
+      c.next_present-next-in-loop-next.ensures,
       omega (arith, further c),
       omega arith,
     )
 
-returns-2 : tie.Need-returns-2 invariant-loop decreases-loop
+returns-2 : tie.Need-returns invariant-loop decreases-loop
 returns-2 c =
     let l = c.before in
     let s = start l in
-    let e : l.loop.next ≡ s.args.count = omega (arith, next-to (p s) (l.loop.last + 1) s.args.count l.loop.next (omega (arith, l.loop.invariant.0.inside)) l.loop.invariant.1) in
-    subst (First (p s) s.args.count s.args.at (by s) l.loop.n) e
-    (going-first (p s) s.args.count s.args.at (by s) (some s) l.loop.last l.loop.n l.loop.next l.loop.invariant.0 l.loop.invariant.1 (omega arith) (λ m. absurd (omega arith)))
+    let e : l.loop-next.next ≡ s.args.count = omega (arith, next-to (p s) (l.loop-next.last + 1) s.args.count l.loop-next.next (omega (arith, l.loop-next.invariant.0.inside)) l.loop-next.invariant.1) in
+    subst (First (p s) s.args.count s.args.at (by s) l.loop-next.n) e
+    (going-first (p s) s.args.count s.args.at (by s) (some s) l.loop-next.last l.loop-next.n l.loop-next.next l.loop-next.invariant.0 l.loop-next.invariant.1 (omega arith) (λ m. absurd (omega arith)))
 
-pub run-of-steps-spec : {M : Type 1} → statement M
-run-of-steps-spec = tie.close (tie.spec invariant-loop decreases-loop sub_by stride-requires add-next-present next-present-requires loop-holds sub-if1 returns add-n add-next-present-2 next-present-requires-2 loop-less loop-again returns-2)
+pub run_of_steps_spec : {M : Type 1} → statement M
+run_of_steps_spec = tie.close (tie.spec invariant-loop decreases-loop sub_by stride-requires add-next-present next-present-requires loop-holds sub-if1 returns add-n add-next-present-2 next-present-requires-2 loop-less loop-again returns-2)

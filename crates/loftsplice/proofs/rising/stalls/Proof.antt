@@ -19,20 +19,20 @@ of-more c = to_z_pos w64 (omega arith)
 product : (c : tie.Start) → mag (c.args.step *ℤ pos c.args.more) < half64
 product c = omega (arith, mag-product c.args.step c.args.more, product_le c.args.step c.args.more 32768 4294967296 c.ranges.step.sfits (omega arith))
 
-cast-result : tie.Need-overflow-cast-result
+cast-result : tie.Need-overflow_cast-result
 cast-result c = rw (to_z-of_z c.ranges.step) (record { sfits = omega arith })
 
-cast-result-2 : tie.Need-overflow-cast-result-2
+cast-result-2 : tie.Need-overflow_cast-result-2
 cast-result-2 c = search rules
 
-mul-result : tie.Need-overflow-mul-result
+mul-result : tie.Need-overflow_mul-result
 mul-result c = rw (of-step c, of-more c) (record { sfits = product c })
 
-cast-result-3 : tie.Need-overflow-cast-result-3
+cast-result-3 : tie.Need-overflow_cast-result-3
 cast-result-3 c = search rules
 
 returns : tie.Need-returns
 returns c = rw (of-step c, of-more c, back w64 (c.args.step *ℤ pos c.args.more) (product c)) (stalls-product c.args.step c.args.more)
 
-pub stalls-spec : {M : Type 1} → statement M
-stalls-spec = tie.close (tie.spec cast-result cast-result-2 mul-result cast-result-3 returns)
+pub stalls_spec : {M : Type 1} → statement M
+stalls_spec = tie.close (tie.spec cast-result cast-result-2 mul-result cast-result-3 returns)

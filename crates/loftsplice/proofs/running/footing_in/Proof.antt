@@ -6,45 +6,37 @@ use Rattle.loftsplice.proofs.RunCases.{footing-past, footing-on}
 use Rattle.loftsplice.proofs.running.footing_in.Statement.{statement}
 use Rattle.loftsplice.proofs.running.footing_in.Tie as tie
 
-abbrev start : tie.Else1 → tie.Start
+abbrev start : tie.Else-end-from → tie.Start
 start c =
     let at_from = c.before.before in
     at_from.before.before
 
-returns : tie.Need-returns
-returns c = footing-past _ _ _ c.if1.true
+returns : tie.Need-returns-then-end-from
+returns c = footing-past _ _ _ c.if-end-from.true
 
-element-at-requires : tie.Need-element-at-requires
-element-at-requires c κs = let s = start c in (s.pre.0, (omega (arith, c.if1.false, s.pre.1.0), (s.pre.1.1 c.if1.false).0))
+element-at-requires : tie.Need-element_at-value-requires
+element-at-requires c κs = let s = start c in (s.pre.0, (omega (arith, c.if-end-from.false, s.pre.1.0), (s.pre.1.1 c.if-end-from.false).0))
 
-sub-index : tie.Need-overflow-sub-index
-sub-index c = omega (arith, c.before.if1.false)
+sub-index : tie.Need-overflow_sub-index
+sub-index c = omega (arith, c.before.if-end-from.false)
 
-place-of-requires : tie.Need-place-of-requires
-place-of-requires c κs = ((start c.before).requires.1.1 c.before.if1.false).1
+place-of-requires : tie.Need-place_of-place-requires
+place-of-requires c κs = ((start c.before).requires.1.1 c.before.if-end-from.false).1
 
-element-at-requires-2 : tie.Need-element-at-requires-2
+element-at-requires-2 : tie.Need-element_at-most-requires
 element-at-requires-2 c κs =
     let at-else = c.before.before in
     let s = start at-else in
-    (s.pre.0, (omega (arith, at-else.if1.false, s.pre.1.0), c.place_of.ensures))
+    (s.pre.0, (omega (arith, at-else.if-end-from.false, s.pre.1.0), c.place_of-place.ensures))
 
-returns-2 : tie.Need-returns-2
+returns-2 : tie.Need-returns
 returns-2 c =
     let at-element = c.before.before in
     let at-else = at-element.before in
-    let lies = (start at-else).requires.1.1 at-else.if1.false in
-    footing-on _ _ _ at-else.if1.false _ _ _ _ (ap (λ (p : Place). p.run) lies.0)
-    (back w64 at-element.element-at.result at-element.element-at.type-inv ∙ at-element.element-at.ensures) lies.1
-    (back w64 c.element-at2.result c.element-at2.type-inv ∙ c.element-at2.ensures)
+    let lies = (start at-else).requires.1.1 at-else.if-end-from.false in
+    footing-on _ _ _ at-else.if-end-from.false _ _ _ _ (ap (λ (p : Place). p.run) lies.0)
+    (back w64 at-element.element_at-value.result at-element.element_at-value.type_inv ∙ at-element.element_at-value.ensures) lies.1
+    (back w64 c.element_at-most.result c.element_at-most.type_inv ∙ c.element_at-most.ensures)
 
-pub footing-in-spec : {M : Type 1} → statement M
-footing-in-spec =
-    tie.close
-    (tie.spec
-    returns
-    element-at-requires
-    sub-index
-    place-of-requires
-    element-at-requires-2
-    returns-2)
+pub footing_in_spec : {M : Type 1} → statement M
+footing_in_spec = tie.close (tie.spec returns element-at-requires sub-index place-of-requires element-at-requires-2 returns-2)

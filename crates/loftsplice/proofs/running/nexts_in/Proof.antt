@@ -16,95 +16,77 @@ within : (s : tie.Start) → s.args.scan.end ≤ size_of (col s)
 within s = end-in (sequence_of (col s)) s.args.scan s.requires.1
 
 -- an element is ahead, or none
-abbrev origin : tie.After-ahead-of → tie.Start
+abbrev origin : tie.After-ahead_of-first → tie.Start
 origin c =
     let at-else = c.before in
     at-else.before.before
 
-returns : tie.Need-returns
-returns c = let s = c.before.before in nexts-nowhere (sequence_of (col s)) s.args.scan s.args.out.now c.if1.true
+returns : tie.Need-returns-then-places-eq0
+returns c = let s = c.before.before in nexts-nowhere (sequence_of (col s)) s.args.scan s.args.out-1.now c.if-places-eq0.true
 
-ahead-of-requires : tie.Need-ahead-of-requires
+ahead-of-requires : tie.Need-ahead_of-first-requires
 ahead-of-requires c κs = λ i e.
     let s = c.before.before in
     omega (arith, index_below (sequence_of (col s)) s.args.scan s.requires.1 i e, within s, size-most (col s) (sound-parts (col s) s.requires.0))
 
-returns-2 : tie.Need-returns-2
+returns-2 : tie.Need-returns-then-end-first
 returns-2 c =
     let s = origin c.before in
-    nexts-ended (sequence_of (col s)) s.args.scan s.args.out.now _ c.before.ahead_of_lem.ensures (omega (arith, c.before.before.if1.false)) c.if2.true
+    nexts-ended (sequence_of (col s)) s.args.scan s.args.out-1.now _ c.before.ahead_of_lem.ensures (omega (arith, c.before.before.if-places-eq0.false)) c.if-end-first.true
 
-sub-left : tie.Need-overflow-sub-left
+sub-left : tie.Need-overflow_sub-left
 sub-left c = search rules
 
-write-stretch-requires : tie.Need-write-stretch-requires
+write-stretch-requires : tie.Need-write_stretch-requires
 write-stretch-requires c κs =
     let e = c.before.before in
     let s = origin e.before in
-    (s.pre.0, (omega (arith, e.if2.false), (within s, omega (arith, c.before.if3.true))))
+    (s.pre.0, (omega (arith, e.if-end-first.false), (within s, omega (arith, c.before.if-left-places.true))))
 
-same_length : tie.Need-same-length
+same_length : tie.Need-shape_of-out-then-left-places
 same_length c = search rules
 
-returns-3 : tie.Need-returns-3
+returns-3 : tie.Need-returns-then-left-places
 returns-3 c =
     let w = c.before in
     let e = w.before.before.before in
     let s = origin e.before in
-    nexts-to-end (sequence_of (col s)) s.args.scan s.args.out.now _ e.before.ahead_of_lem.ensures (omega (arith, e.before.before.if1.false)) _ (omega (arith, e.if2.false)) w.before.before.if3.true w.write-stretch.ensures
+    nexts-to-end (sequence_of (col s)) s.args.scan s.args.out-1.now _ e.before.ahead_of_lem.ensures (omega (arith, e.before.before.if-places-eq0.false)) _ (omega (arith, e.if-end-first.false)) w.before.before.if-left-places.true w.write_stretch.ensures
 
-add-write-stretch : tie.Need-overflow-add-write-stretch
+add-write-stretch : tie.Need-overflow_add-first
 add-write-stretch c = search rules
 
-write-stretch-requires-2 : tie.Need-write-stretch-requires-2
+write-stretch-requires-2 : tie.Need-write_stretch-requires-2
 write-stretch-requires-2 c κs =
     let e = c.before.before in
     let s = origin e.before in
-    (s.pre.0, (omega arith, (omega (arith, within s, e.if2.false, c.before.if3.false), omega arith)))
+    (s.pre.0, (omega arith, (omega (arith, within s, e.if-end-first.false, c.before.if-left-places.false), omega arith)))
 
-sub-value : tie.Need-overflow-sub-value
+sub-value : tie.Need-overflow_sub-value
 sub-value c = search rules
 
-mul-value : tie.Need-overflow-mul-value
+mul-value : tie.Need-offset_bounds-out-out
 mul-value c = search rules
 
-slice-copy-out-value : tie.Need-slice-copy-out-value
+slice-copy-out-value : tie.Need-slice_copy_out-value
 slice-copy-out-value c = search rules
 
-sub-t27 : tie.Need-overflow-sub-t27
+sub-t27 : tie.Need-overflow_sub-result
 sub-t27 c = search rules
 
-add-t34 : tie.Need-overflow-add-t34
+add-t34 : tie.Need-overflow_add-result
 add-t34 c = search rules
 
-same-length-2 : tie.Need-same-length-2
+same-length-2 : tie.Need-shape_of-out
 same-length-2 c = search rules
 
-returns-4 : tie.Need-returns-4
+returns-4 : tie.Need-returns
 returns-4 c =
     let w = c.before.before in
     let e = w.before.before.before in
     let s = origin e.before in
-    nexts-to-full (sequence_of (col s)) s.args.scan s.args.out.now _ e.before.ahead_of_lem.ensures (omega (arith, e.before.before.if1.false)) _ _ _ _ _
-    w.before.before.if3.false (omega (arith, e.if2.false)) refl refl w.write-stretch2.ensures (omega arith) (back w64 _ c.value.given)
+    nexts-to-full (sequence_of (col s)) s.args.scan s.args.out-1.now _ e.before.ahead_of_lem.ensures (omega (arith, e.before.before.if-places-eq0.false)) _ _ _ _ _
+    w.before.before.if-left-places.false (omega (arith, e.if-end-first.false)) refl refl w.write_stretch-2.ensures (omega arith) (back w64 _ c.value-1.given)
 
-pub nexts-in-spec : {M : Type 1} → statement M
-nexts-in-spec =
-    tie.close
-    (tie.spec
-    returns
-    ahead-of-requires
-    returns-2
-    sub-left
-    write-stretch-requires
-    same_length
-    returns-3
-    add-write-stretch
-    write-stretch-requires-2
-    sub-value
-    mul-value
-    slice-copy-out-value
-    sub-t27
-    add-t34
-    same-length-2
-    returns-4)
+pub nexts_in_spec : {M : Type 1} → statement M
+nexts_in_spec = tie.close (tie.spec returns ahead-of-requires returns-2 sub-left write-stretch-requires same_length returns-3 add-write-stretch write-stretch-requires-2 sub-value mul-value slice-copy-out-value sub-t27 add-t34 same-length-2 returns-4)

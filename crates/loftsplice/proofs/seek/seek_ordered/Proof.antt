@@ -18,52 +18,52 @@ start c =
 
 window : (c : tie.After-rising) → let s = start c in
     c.rising.result ≡ rises (sequence_of (column_now s.args.starts s.args.ends s.args.steps)) s.args.scan.start s.args.scan.end
-window c = rw (c.before.window-of.ensures.0.0, c.before.window-of.ensures.0.1) at c.rising.ensures
+window c = rw (c.before.window_of-window.ensures.0.0, c.before.window_of-window.ensures.0.1) at c.rising.ensures
 
-window-of-requires : tie.Need-window-of-requires
+window-of-requires : tie.Need-window_of-window-requires
 window-of-requires c κs = (sound-parts _ c.before.pre.0).up
 
 rising-requires : tie.Need-rising-requires
 rising-requires c κs =
     let s = c.before.before in
-    (s.pre.0, (rw c.window-of.ensures.0.1 (end-in _ s.args.scan s.pre.1.0), c.window-of.ensures.1))
+    (s.pre.0, (rw c.window_of-window.ensures.0.1 (end-in _ s.args.scan s.pre.1.0), c.window_of-window.ensures.1))
 
 refused-requires : tie.Need-refused-requires
 refused-requires c κs = search rules
 
-returns : tie.Need-returns
+returns : tie.Need-returns-then-not-rising
 returns c =
     let at-rising = c.before.before in
-    c.refused.ensures ∙ order-falls _ (start at-rising).args.scan _ (sym (window at-rising) ∙ not-no _ c.before.if1.taken)
+    c.refused.ensures ∙ order-falls _ (start at-rising).args.scan _ (sym (window at-rising) ∙ not-no _ c.before.if-not-rising.true-raw)
 
-rest-of-requires : tie.Need-rest-of-requires
+rest-of-requires : tie.Need-rest_of-rest-requires
 rest-of-requires c κs =
     let at-rising = c.before in
     let s = start at-rising in
-    let w = at-rising.before.window-of.ensures in
+    let w = at-rising.before.window_of-window.ensures in
     (w.0, (w.1, (index-from _ s.args.scan s.pre.1.0, s.pre.1.1)))
 
-seek-in-requires : tie.Need-seek-in-requires
+seek-in-requires : tie.Need-seek_in-requires
 seek-in-requires c κs =
     let at-else = c.before in
     let at-rising = at-else.before in
     let s = start at-rising in
-    let r = c.rest_of.ensures in
+    let r = c.rest_of-rest.ensures in
     record {
       whole = s.pre.0;
       good = s.pre.1.0;
-      rising = rw (r.0.0, r.0.1) (rest-rises _ s.args.scan s.pre.1.0 (sym (window at-rising) ∙ not-false _ at-else.if1.left));
+      rising = rw (r.0.0, r.0.1) (rest-rises _ s.args.scan s.pre.1.0 (sym (window at-rising) ∙ not-false _ at-else.if-not-rising.false-raw));
       is-start = r.0.0;
       is-end = r.0.1;
       lies = r.1;
     }
 
-returns-2 : tie.Need-returns-2
+returns-2 : tie.Need-returns
 returns-2 c =
     let at-else = c.before.before in
     let at-rising = at-else.before in
     let s = start at-rising in
-    rw (to_z-of_z s.fits.target) at c.seek-in.ensures ∙ order-holds _ s.args.scan _ (sym (window at-rising) ∙ not-false _ at-else.if1.left)
+    rw (to_z-of_z s.ranges.target) at c.seek_in.ensures ∙ order-holds _ s.args.scan _ (sym (window at-rising) ∙ not-false _ at-else.if-not-rising.false-raw)
 
-pub seek-ordered-spec : {M : Type 1} → statement M
-seek-ordered-spec = tie.close (tie.spec window-of-requires rising-requires refused-requires returns rest-of-requires seek-in-requires returns-2)
+pub seek_ordered_spec : {M : Type 1} → statement M
+seek_ordered_spec = tie.close (tie.spec window-of-requires rising-requires refused-requires returns rest-of-requires seek-in-requires returns-2)

@@ -25,20 +25,20 @@ good : (s : tie.Start) → Sound (col s)
 good s = sound-parts (col s) s.requires.0.is-sound
 
 -- the run's first element
-module _ (c : tie.After-bias) where
-  abbrev low : tie.After-end-before
+module _ (c : tie.After-bias-first) where
+  abbrev low : tie.After-end_before-low
   low = c.before.before
 
   abbrev st : tie.Start
   st = low.before.before
 
-  of-start : c.bias.result ≡ key half64 (start_of (col st) st.args.r)
-  of-start = c.bias.ensures ∙ ap (key half64) (back w64 (start_of (col st) st.args.r) c.before.bias-arg.given)
+  of-start : c.bias-first.result ≡ key half64 (start_of (col st) st.args.r)
+  of-start = c.bias-first.ensures ∙ ap (key half64) (back w64 (start_of (col st) st.args.r) c.before.bias-arg-1.given)
 
   above : half64 ≤ key half64 (start_of (col st) st.args.r)
   above = run-key (col st) st.args.count st.pre.0 0 0 st.args.r st.pre.1
 
-  first-is : c.bias.result - 9223372036854775808 ≡ first_at (start_of (col st) st.args.r)
+  first-is : c.bias-first.result - 9223372036854775808 ≡ first_at (start_of (col st) st.args.r)
   first-is = ap (λ x. x - 9223372036854775808) of-start
 
   rise : end_before st.args.ends.now st.args.r < get_or st.args.ends.now st.args.r 0
@@ -50,34 +50,34 @@ module _ (c : tie.After-bias) where
   more-is : get_or st.args.ends.now st.args.r 0 - low.end_Before.result - 1 ≡ more_of (col st) st.args.r
   more-is = ap (λ x. get_or st.args.ends.now st.args.r 0 - x - 1) low.end_Before.ensures
 
-end-before-requires : tie.Need-end-before-requires
+end-before-requires : tie.Need-end_before-low-requires
 end-before-requires c κs = search rules
 
-mul-bias : tie.Need-overflow-mul-bias
+mul-bias : tie.Need-offset_bounds-starts-r
 mul-bias c = search rules
 
-shared-slice-copy-out-bias : tie.Need-shared-slice-copy-out-bias
+shared-slice-copy-out-bias : tie.Need-bounds-starts-r
 shared-slice-copy-out-bias c = omega (arith, (good c.before.before).shaped)
 
-bias-requires : tie.Need-bias-requires
+bias-requires : tie.Need-bias-first-requires
 bias-requires c κs = search rules
 
-sub-first : tie.Need-overflow-sub-first
+sub-first : tie.Need-overflow_sub-first
 sub-first c = omega (arith, of-start c, above c)
 
-mul-more : tie.Need-overflow-mul-more
+mul-more : tie.Need-offset_bounds-ends-r
 mul-more c = search rules
 
-shared-slice-read-more : tie.Need-shared-slice-read-more
+shared-slice-read-more : tie.Need-bounds-ends-r
 shared-slice-read-more c = search rules
 
-sub_more : tie.Need-overflow-sub-more
+sub_more : tie.Need-overflow_sub-more
 sub_more c = omega (arith, rise c.before, (low c.before).end_Before.ensures)
 
-sub-more-2 : tie.Need-overflow-sub-more-2
+sub-more-2 : tie.Need-overflow_sub-more-2
 sub-more-2 c = omega (arith, rise c.before, (low c.before).end_Before.ensures)
 
-returns : tie.Need-returns
+returns : tie.Need-returns-then-more-eq0
 returns c =
     let b = c.before.before in
     let s = st b in
@@ -85,36 +85,36 @@ returns c =
       is-first = first-is b;
       is-more = more-is b;
       short = omega (arith, most b);
-      by = λ k l. by_one (nat_abs (step_of (col s) s.args.r)) _ k c.if1.true l;
+      by = λ k l. by_one (nat_abs (step_of (col s) s.args.r)) _ k c.if-more-eq0.true l;
       up = (omega arith, omega arith);
     }
 
-mul-size16 : tie.Need-overflow-mul-size16
+mul-size16 : tie.Need-offset_bounds-steps-r
 mul-size16 c = search rules
 
-shared-slice-copy-out-size16 : tie.Need-shared-slice-copy-out-size16
+shared-slice-copy-out-size16 : tie.Need-bounds-steps-r
 shared-slice-copy-out-size16 c = let b = c.before.before in omega (arith, (good (st b)).shaped)
 
-size16-requires : tie.Need-size16-requires
+size16-requires : tie.Need-size16-step-requires
 size16-requires c κs = search rules
 
-returns-2 : tie.Need-returns-2
+returns-2 : tie.Need-returns
 returns-2 c =
     let a = c.before in
     let e = a.before in
     let b = e.before.before in
     let s = st b in
-    let of-step : c.size16.result ≡ nat_abs (step_of (col s) s.args.r) = c.size16.ensures ∙ ap nat_abs (back w16 (step_of (col s) s.args.r) a.size16-arg.given) in
+    let of-step : c.size16-step.result ≡ nat_abs (step_of (col s) s.args.r) = c.size16-step.ensures ∙ ap nat_abs (back w16 (step_of (col s) s.args.r) a.size16-arg-1.given) in
     record {
       is-first = first-is b;
       is-more = more-is b;
       short = omega (arith, most b);
       by = λ k l. ap (λ x. x * k) of-step;
       up = (
-        subst⁻¹ (λ x. 0 < x) of-step (run_up (col s) s.args.count s.pre.0 0 0 s.args.r s.pre.1 (some_more _ _ e.if1.false (more-is b))),
-        subst⁻¹ (λ x. x ≤ 32768) of-step (nat_abs-le (step_of (col s) s.args.r) {H = 32768} a.size16-arg.given),
+        subst⁻¹ (λ x. 0 < x) of-step (run_up (col s) s.args.count s.pre.0 0 0 s.args.r s.pre.1 (some_more _ _ e.if-more-eq0.false (more-is b))),
+        subst⁻¹ (λ x. x ≤ 32768) of-step (nat_abs-le (step_of (col s) s.args.r) {H = 32768} a.size16-arg-1.given),
       );
     }
 
-pub run-at-spec : {M : Type 1} → statement M
-run-at-spec = tie.close (tie.spec end-before-requires mul-bias shared-slice-copy-out-bias bias-requires sub-first mul-more shared-slice-read-more sub_more sub-more-2 returns mul-size16 shared-slice-copy-out-size16 size16-requires returns-2)
+pub run_at_spec : {M : Type 1} → statement M
+run_at_spec = tie.close (tie.spec end-before-requires mul-bias shared-slice-copy-out-bias bias-requires sub-first mul-more shared-slice-read-more sub_more sub-more-2 returns mul-size16 shared-slice-copy-out-size16 size16-requires returns-2)

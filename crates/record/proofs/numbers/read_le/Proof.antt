@@ -10,48 +10,48 @@ use borrow.Author.Rules.{rules}
 use Rattle.record.proofs.numbers.read_le.Statement.{statement}
 use Rattle.record.proofs.numbers.read_le.Tie as tie
 
-abbrev invariant-loop : tie.invariant-loop
+abbrev invariant-loop : tie.invariant-loop-i
 invariant-loop bytes at n value₀ i₀ value i = (i ≤ n) × (value ≡ le_val (bytes_at bytes (at + i) (n - i))) × (value < 256 ^ (n - i))
 
-abbrev decreases-loop : tie.decreases-loop
+abbrev decreases-loop : tie.decreases-loop-i
 decreases-loop bytes at n value₀ i₀ value i = i
 
 -- in a turn at most seven bytes were read, and the byte that is read next is one
-seven : (c : tie.In-loop invariant-loop decreases-loop) → c.before.loop.value < 256 ^ 7
-seven c = omega (arith, c.before.loop.invariant.2, pow-up (c.before.before.args.n - c.before.loop.i) 7 (omega arith))
+seven : (c : tie.In-loop-i invariant-loop decreases-loop) → c.before.loop-i.value < 256 ^ 7
+seven c = omega (arith, c.before.loop-i.invariant.2, pow-up (c.before.before.args.n - c.before.loop-i.i) 7 (omega arith))
 
-byte : (c : tie.After-shared-slice-known invariant-loop decreases-loop) → get_or c.before.before.before.args.bytes.now (c.before.before.before.args.at + (c.before.before.loop.i - 1)) 0 < 256
-byte c = omega (arith, c.shared-slice-known.given (c.before.before.before.args.at + (c.before.before.loop.i - 1)))
+byte : (c : tie.After-shared_slice_known-1 invariant-loop decreases-loop) → get_or c.before.before.before.args.bytes.now (c.before.before.before.args.at + (c.before.before.loop-i.i - 1)) 0 < 256
+byte c = omega (arith, c.shared_slice_known-1.given (c.before.before.before.args.at + (c.before.before.loop-i.i - 1)))
 
-loop-holds : tie.Need-loop-init invariant-loop decreases-loop
+loop-holds : tie.Need-loop-i-init invariant-loop decreases-loop
 loop-holds c =
     let e : c.args.n - c.args.n ≡ 0 = omega arith in
     (omega arith, rw e (le_val-none c.args.bytes.now (c.args.at + c.args.n)), rw e (omega arith))
 
-sub-i : tie.Need-overflow-sub-i invariant-loop decreases-loop
+sub-i : tie.Need-overflow_sub-i invariant-loop decreases-loop
 sub-i c = search rules
 
-mul-value : tie.Need-overflow-mul-value invariant-loop decreases-loop
+mul-value : tie.Need-overflow_mul-value invariant-loop decreases-loop
 mul-value c = omega (arith, seven c)
 
-add-value : tie.Need-overflow-add-value invariant-loop decreases-loop
+add-value : tie.Need-overflow_add-value invariant-loop decreases-loop
 add-value c = search rules
 
-shared-slice-read-value : tie.Need-shared-slice-read-value invariant-loop decreases-loop
+shared-slice-read-value : tie.Need-bounds-bytes-at invariant-loop decreases-loop
 shared-slice-read-value c = search rules
 
-cast-value : tie.Need-overflow-cast-value invariant-loop decreases-loop
+cast-value : tie.Need-overflow_cast-value invariant-loop decreases-loop
 cast-value c = omega (arith, byte c)
 
-add-value-2 : tie.Need-overflow-add-value-2 invariant-loop decreases-loop
+add-value-2 : tie.Need-overflow_add-value-in-loop-i invariant-loop decreases-loop
 add-value-2 c = omega (arith, seven c.before, byte c)
 
-loop-less : tie.Need-loop-smaller invariant-loop decreases-loop
+loop-less : tie.Need-loop-i-smaller invariant-loop decreases-loop
 loop-less c = search rules
 
-loop-again : tie.Need-loop-preserved invariant-loop decreases-loop
+loop-again : tie.Need-loop-i-preserved invariant-loop decreases-loop
 loop-again c =
-    let l = c.before.before.loop in
+    let l = c.before.before.loop-i in
     let a = c.before.before.before.args in
     let next : a.at + l.i ≡ suc (a.at + (l.i - 1)) = omega arith in
     let more : a.n - (l.i - 1) ≡ suc (a.n - l.i) = omega arith in
@@ -64,22 +64,8 @@ loop-again c =
 returns : tie.Need-returns invariant-loop decreases-loop
 returns c =
     let a = c.before.before.args in
-    let z : c.before.loop.i ≡ 0 = omega arith in
-    (rw (z, add-zero a.at, sub-zero a.n) at c.before.loop.invariant.1, rw (z, sub-zero a.n) at c.before.loop.invariant.2)
+    let z : c.before.loop-i.i ≡ 0 = omega arith in
+    (rw (z, add-zero a.at, sub-zero a.n) at c.before.loop-i.invariant.1, rw (z, sub-zero a.n) at c.before.loop-i.invariant.2)
 
-pub read-le-spec : {M : Type 1} → statement M
-read-le-spec =
-    tie.close
-    (tie.spec
-    invariant-loop
-    decreases-loop
-    loop-holds
-    sub-i
-    mul-value
-    add-value
-    shared-slice-read-value
-    cast-value
-    add-value-2
-    loop-less
-    loop-again
-    returns)
+pub read_le_spec : {M : Type 1} → statement M
+read_le_spec = tie.close (tie.spec invariant-loop decreases-loop loop-holds sub-i mul-value add-value shared-slice-read-value cast-value add-value-2 loop-less loop-again returns)

@@ -19,126 +19,105 @@ use borrow.Author.Rules.{rules}
 use Rattle.record.proofs.writing.write_runs.Statement.{statement}
 use Rattle.record.proofs.writing.write_runs.Tie as tie
 
-abbrev invariant-loop : tie.invariant-loop
+abbrev invariant-loop : tie.invariant-loop-i
 invariant-loop starts ends steps out₀ last₀ i₀ out last i = (i ≤ length ends) × (last ≡ end_before ends i) × (out ≡ sets out₀ 6 (joined (run_out (column_of starts ends steps)) i))
 
-abbrev decreases-loop : tie.decreases-loop
+abbrev decreases-loop : tie.decreases-loop-i
 decreases-loop starts ends steps out₀ last₀ i₀ out last i = length ends - i
 
 -- the column is sound, and the output as long as it was
 known : (s : tie.Start invariant-loop decreases-loop) → Sound (column_now s.args.starts s.args.ends s.args.steps)
 known s = sound-parts _ s.requires.0
 
-long : (c : tie.At-loop invariant-loop decreases-loop) → length c.loop.out ≡ length c.before.before.before.args.out.now
-long c = ap length c.loop.invariant.2 ∙ simp length-sets
+long : (c : tie.At-loop-i invariant-loop decreases-loop) → length c.loop-i.out-1 ≡ length c.before.before.before.args.out-1.now
+long c = ap length c.loop-i.invariant.2 ∙ simp length-sets
 
-loop-holds : tie.Need-loop-init invariant-loop decreases-loop
+loop-holds : tie.Need-loop-i-init invariant-loop decreases-loop
 unfolding joined
 loop-holds c = (omega arith, before-zero c.before.before.args.ends.now {r = 0} refl, refl)
 
-mul-end : tie.Need-overflow-mul-end invariant-loop decreases-loop
+mul-end : tie.Need-offset_bounds-ends-i invariant-loop decreases-loop
 mul-end c = search rules
 
-shared-slice-read-end : tie.Need-shared-slice-read-end invariant-loop decreases-loop
+shared-slice-read-end : tie.Need-bounds-ends-i invariant-loop decreases-loop
 shared-slice-read-end c = search rules
 
-mul-write-run : tie.Need-overflow-mul-write-run invariant-loop decreases-loop
+mul-write-run : tie.Need-overflow_mul-i invariant-loop decreases-loop
 mul-write-run c = search rules
 
-add-write-run : tie.Need-overflow-add-write-run invariant-loop decreases-loop
+add-write-run : tie.Need-overflow_add-i invariant-loop decreases-loop
 add-write-run c =
     let at-loop = c.before.before.before in
     let at-start = at-loop.before.before.before in
     omega (arith, (known (at-start)).shaped.few)
 
-mul-write-run-2 : tie.Need-overflow-mul-write-run-2 invariant-loop decreases-loop
+mul-write-run-2 : tie.Need-offset_bounds-starts-i invariant-loop decreases-loop
 mul-write-run-2 c = search rules
 
-shared-slice-copy-out-write-run : tie.Need-shared-slice-copy-out-write-run invariant-loop decreases-loop
+shared-slice-copy-out-write-run : tie.Need-bounds-starts-i invariant-loop decreases-loop
 shared-slice-copy-out-write-run c =
     let at-loop = c.before.before.before in
     let at-start = at-loop.before.before.before in
     omega (arith, (known (at-start)).shaped.starts-long)
 
-mul-write-run-3 : tie.Need-overflow-mul-write-run-3 invariant-loop decreases-loop
+mul-write-run-3 : tie.Need-offset_bounds-steps-i invariant-loop decreases-loop
 mul-write-run-3 c = search rules
 
-shared-slice-copy-out-write-run-2 : tie.Need-shared-slice-copy-out-write-run-2 invariant-loop decreases-loop
+shared-slice-copy-out-write-run-2 : tie.Need-bounds-steps-i invariant-loop decreases-loop
 shared-slice-copy-out-write-run-2 c =
     let in-loop = c.before.before.before in
     let shr_slice_at = in-loop.before.before.before in
     let at-start = shr_slice_at.before in
     omega (arith, (known (at-start)).shaped.steps-long)
 
-sub-write-run : tie.Need-overflow-sub-write-run invariant-loop decreases-loop
+sub-write-run : tie.Need-overflow_sub-end invariant-loop decreases-loop
 sub-write-run c =
     let at-slice2 = c.before.before.before in
     let in-loop = at-slice2.before in
     let l = in-loop.before in
-    omega (arith, l.loop.invariant.1, (known l.before.before.before).up l.loop.i in-loop.loop-test.true)
+    omega (arith, l.loop-i.invariant.1, (known l.before.before.before).up l.loop-i.i in-loop.loop-i-test.true)
 
-cast-write-run : tie.Need-overflow-cast-write-run invariant-loop decreases-loop
+cast-write-run : tie.Need-overflow_cast-end invariant-loop decreases-loop
 cast-write-run c =
     let at-slice2 = c.before.before.before in
     let in-loop = at-slice2.before in
     let l = in-loop.before in
-    omega (arith, (known l.before.before.before).most l.loop.i in-loop.loop-test.true)
+    omega (arith, (known l.before.before.before).most l.loop-i.i in-loop.loop-i-test.true)
 
-write-run-requires : tie.Need-write-run-requires invariant-loop decreases-loop
+write-run-requires : tie.Need-write_run-requires invariant-loop decreases-loop
 write-run-requires c κs =
     let at-slice2 = c.before.before.before in
     let in-loop = at-slice2.before in
     let l = in-loop.before in
-    omega (arith, long l, l.before.before.before.requires.1, in-loop.loop-test.true)
+    omega (arith, long l, l.before.before.before.requires.1, in-loop.loop-i-test.true)
 
-add-i : tie.Need-overflow-add-i invariant-loop decreases-loop
+add-i : tie.Need-overflow_add-i-in-loop-i invariant-loop decreases-loop
 add-i c = search rules
 
-loop-less : tie.Need-loop-smaller invariant-loop decreases-loop
+loop-less : tie.Need-loop-i-smaller invariant-loop decreases-loop
 loop-less c = search rules
 
-loop-again : tie.Need-loop-preserved invariant-loop decreases-loop
+loop-again : tie.Need-loop-i-preserved invariant-loop decreases-loop
 loop-again c =
     let r = c.before.before in
     let at-write-run-arg = r.before.before.before in
     let l = at-write-run-arg.before.before.before in
     let s = l.before.before.before in (
       omega arith,
-      before-next s.args.ends.now l.loop.i,
-      runs-stored (column_now s.args.starts s.args.ends s.args.steps) l.loop.i l.loop.last _ _ l.loop.out s.args.out.now _ l.loop.invariant.1 (back w64 (get_or s.args.starts.now l.loop.i (pos 0)) r.before.before.write-run-arg2.given)
-          (back w16 (get_or s.args.steps.now l.loop.i (pos 0)) r.before.write-run-arg3.given) l.loop.invariant.2 r.write-run.ensures,
+      before-next s.args.ends.now l.loop-i.i,
+      runs-stored (column_now s.args.starts s.args.ends s.args.steps) l.loop-i.i l.loop-i.last _ _ l.loop-i.out-1 s.args.out-1.now _ l.loop-i.invariant.1 (back w64 (get_or s.args.starts.now l.loop-i.i (pos 0)) r.before.before.write_run-arg-in-loop-i-1.given)
+          (back w16 (get_or s.args.steps.now l.loop-i.i (pos 0)) r.before.write_run-arg-in-loop-i-2-1.given) l.loop-i.invariant.2 r.write_run.ensures,
     )
 
-same_length : tie.Need-same-length invariant-loop decreases-loop
+same_length : tie.Need-shape_of-out invariant-loop decreases-loop
 same_length c = long c.before
 
 returns : tie.Need-returns invariant-loop decreases-loop
 returns c =
     let shr_slice_at = c.before.before.before in
     let at-start = shr_slice_at.before in
-    let e : c.before.loop.i ≡ length at-start.args.ends.now = omega arith in
-    rw e at c.before.loop.invariant.2
+    let e : c.before.loop-i.i ≡ length at-start.args.ends.now = omega arith in
+    rw e at c.before.loop-i.invariant.2
 
-pub write-runs-spec : {M : Type 1} → statement M
-write-runs-spec =
-    tie.close
-    (tie.spec
-    invariant-loop
-    decreases-loop
-    loop-holds
-    mul-end
-    shared-slice-read-end
-    mul-write-run
-    add-write-run
-    mul-write-run-2
-    shared-slice-copy-out-write-run
-    mul-write-run-3
-    shared-slice-copy-out-write-run-2
-    sub-write-run
-    cast-write-run
-    write-run-requires
-    add-i
-    loop-less
-    loop-again
-    same_length
-    returns)
+pub write_runs_spec : {M : Type 1} → statement M
+write_runs_spec = tie.close (tie.spec invariant-loop decreases-loop loop-holds mul-end shared-slice-read-end mul-write-run add-write-run mul-write-run-2 shared-slice-copy-out-write-run mul-write-run-3 shared-slice-copy-out-write-run-2 sub-write-run cast-write-run write-run-requires add-i loop-less loop-again same_length returns)

@@ -19,14 +19,14 @@ use borrow.Author.Rules.{rules}
 use Rattle.recorded.proofs.placing.fits.Statement.{statement}
 use Rattle.recorded.proofs.placing.fits.Tie as tie
 
-abbrev invariant-loop : tie.invariant-loop
+abbrev invariant-loop : tie.invariant-loop-r
 invariant-loop starts ends steps count floor₀ low₀ r₀ floor low r =
     (r ≤ length ends) × (low ≡ end_before ends r) × (floor ≡ floor_of (column_of starts ends steps) r) × ((k : ℕ) → k < r → run_fits (column_of starts ends steps) count k ≡ true)
 
-abbrev decreases-loop : tie.decreases-loop
+abbrev decreases-loop : tie.decreases-loop-r
 decreases-loop starts ends steps count floor₀ low₀ r₀ floor low r = length ends - r
 
-abbrev start : tie.At-loop invariant-loop decreases-loop → tie.Start invariant-loop decreases-loop
+abbrev start : tie.At-loop-r invariant-loop decreases-loop → tie.Start invariant-loop decreases-loop
 start c = c.before.before
 
 abbrev col : tie.Start invariant-loop decreases-loop → Column
@@ -36,104 +36,104 @@ good : (s : tie.Start invariant-loop decreases-loop) → Sound (col s)
 good s = sound-parts (col s) s.requires
 
 -- in a turn
-module _ (c : tie.In-loop invariant-loop decreases-loop) where
-  abbrev l : tie.At-loop invariant-loop decreases-loop
+module _ (c : tie.In-loop-r invariant-loop decreases-loop) where
+  abbrev l : tie.At-loop-r invariant-loop decreases-loop
   l = c.before
 
-  rise : end_before (start l).args.ends.now l.loop.r < get_or (start l).args.ends.now l.loop.r 0
-  rise = (good (start l)).up l.loop.r c.loop-test.true
+  rise : end_before (start l).args.ends.now l.loop-r.r < get_or (start l).args.ends.now l.loop-r.r 0
+  rise = (good (start l)).up l.loop-r.r c.loop-r-test.true
 
-  most : get_or (start l).args.ends.now l.loop.r 0 ≤ 4294967295
-  most = (good (start l)).most l.loop.r c.loop-test.true
+  most : get_or (start l).args.ends.now l.loop-r.r 0 ≤ 4294967295
+  most = (good (start l)).most l.loop-r.r c.loop-r-test.true
 
 -- what a turn finds
-module _ (c : tie.After-climb invariant-loop decreases-loop) where
-  abbrev arg : tie.After-climb-arg invariant-loop decreases-loop
+module _ (c : tie.After-climb-floor invariant-loop decreases-loop) where
+  abbrev arg : tie.After-climb-arg-1 invariant-loop decreases-loop
   arg = c.before.before
 
-  abbrev turn : tie.In-loop invariant-loop decreases-loop
+  abbrev turn : tie.In-loop-r invariant-loop decreases-loop
   turn = arg.before.before
 
-  abbrev at : tie.At-loop invariant-loop decreases-loop
+  abbrev at : tie.At-loop-r invariant-loop decreases-loop
   at = turn.before
 
   abbrev k : Column
   k = col (start at)
 
-  found : c.climb.result ≡ climb_of (start_of k at.loop.r) (step_of k at.loop.r) (more_of k at.loop.r) (floor_of k at.loop.r) (start at).args.count
-  found = c.climb.ensures ∙ climb-told k at.loop.r at.loop.low at.loop.floor (start at).args.count _ _
-      (back w64 (start_of k at.loop.r) arg.climb-arg.given) (back w16 (step_of k at.loop.r) c.before.climb-arg2.given) at.loop.inv.1 at.loop.inv.2
+  found : c.climb-floor.result ≡ climb_of (start_of k at.loop-r.r) (step_of k at.loop-r.r) (more_of k at.loop-r.r) (floor_of k at.loop-r.r) (start at).args.count
+  found = c.climb-floor.ensures ∙ climb-told k at.loop-r.r at.loop-r.low at.loop-r.floor (start at).args.count _ _
+      (back w64 (start_of k at.loop-r.r) arg.climb-arg-1.given) (back w16 (step_of k at.loop-r.r) c.before.climb-arg-in-loop-r-1.given) at.loop-r.invariant.1 at.loop-r.invariant.2
 
-loop-holds : tie.Need-loop-init invariant-loop decreases-loop
+loop-holds : tie.Need-loop-r-init invariant-loop decreases-loop
 unfolding floor_of
 loop-holds c = (omega arith, before-zero c.before.args.ends.now {r = 0} refl, refl, λ k l. absurd (omega arith))
 
-mul-end : tie.Need-overflow-mul-end invariant-loop decreases-loop
+mul-end : tie.Need-offset_bounds-ends-r invariant-loop decreases-loop
 mul-end c = search rules
 
-shared-slice-read-end : tie.Need-shared-slice-read-end invariant-loop decreases-loop
+shared-slice-read-end : tie.Need-bounds-ends-r invariant-loop decreases-loop
 shared-slice-read-end c = search rules
 
-mul-climb : tie.Need-overflow-mul-climb invariant-loop decreases-loop
+mul-climb : tie.Need-offset_bounds-starts-r invariant-loop decreases-loop
 mul-climb c = search rules
 
-shared-slice-copy-out-climb : tie.Need-shared-slice-copy-out-climb invariant-loop decreases-loop
+shared-slice-copy-out-climb : tie.Need-bounds-starts-r invariant-loop decreases-loop
 shared-slice-copy-out-climb c = omega (arith, (good (start c.before.before)).shaped)
 
-mul-climb-2 : tie.Need-overflow-mul-climb-2 invariant-loop decreases-loop
+mul-climb-2 : tie.Need-offset_bounds-steps-r invariant-loop decreases-loop
 mul-climb-2 c = search rules
 
-shared-slice-copy-out-climb-2 : tie.Need-shared-slice-copy-out-climb-2 invariant-loop decreases-loop
+shared-slice-copy-out-climb-2 : tie.Need-bounds-steps-r invariant-loop decreases-loop
 shared-slice-copy-out-climb-2 c = omega (arith, (good (start c.before.before.before)).shaped)
 
-sub-climb : tie.Need-overflow-sub-climb invariant-loop decreases-loop
+sub-climb : tie.Need-overflow_sub-end invariant-loop decreases-loop
 sub-climb c = omega (arith, rise c.before.before.before)
 
-sub-climb-2 : tie.Need-overflow-sub-climb-2 invariant-loop decreases-loop
+sub-climb-2 : tie.Need-overflow_sub-end-in-loop-r invariant-loop decreases-loop
 sub-climb-2 c = omega (arith, rise c.before.before.before)
 
-climb-requires : tie.Need-climb-requires invariant-loop decreases-loop
+climb-requires : tie.Need-climb-floor-requires invariant-loop decreases-loop
 climb-requires c κs = omega (arith, most c.before.before.before)
 
-returns : tie.Need-returns invariant-loop decreases-loop
+returns : tie.Need-returns-then-floor-eq0 invariant-loop decreases-loop
 unfolding all_fit run_fits
 returns c =
     let m = c.before in
     let a = at m in
-    sym (not-all-in (run_fits (k m) (start a).args.count) 0 (length (start a).args.ends.now) a.loop.r (omega arith) (turn m).loop-test.true
-    (climbed (start_of (k m) a.loop.r) (step_of (k m) a.loop.r) (more_of (k m) a.loop.r) (floor_of (k m) a.loop.r) (start a).args.count (sym (found m) ∙ c.if1.true)))
+    sym (not-all-in (run_fits (k m) (start a).args.count) 0 (length (start a).args.ends.now) a.loop-r.r (omega arith) (turn m).loop-r-test.true
+    (climbed (start_of (k m) a.loop-r.r) (step_of (k m) a.loop-r.r) (more_of (k m) a.loop-r.r) (floor_of (k m) a.loop-r.r) (start a).args.count (sym (found m) ∙ c.if-floor-eq0.true)))
 
-add_r : tie.Need-overflow-add-r invariant-loop decreases-loop
+add_r : tie.Need-overflow_add-r invariant-loop decreases-loop
 add_r c = search rules
 
-loop-less : tie.Need-loop-smaller invariant-loop decreases-loop
+loop-less : tie.Need-loop-r-smaller invariant-loop decreases-loop
 loop-less c = search rules
 
 -- the run fits, and the next floor is above its last element
-passed : (c : tie.Else1 invariant-loop decreases-loop) → let m = c.before in let a = at m in
-    (run_fits (k m) (start a).args.count a.loop.r ≡ true) × (m.climb.result ≡ floor_of (k m) (a.loop.r + 1))
+passed : (c : tie.Else-floor-eq0 invariant-loop decreases-loop) → let m = c.before in let a = at m in
+    (run_fits (k m) (start a).args.count a.loop-r.r ≡ true) × (m.climb-floor.result ≡ floor_of (k m) (a.loop-r.r + 1))
 unfolding run_fits floor_of
 passed c =
     let m = c.before in
     let a = at m in
-    let on = climbed-on (start_of (k m) a.loop.r) (step_of (k m) a.loop.r) (more_of (k m) a.loop.r) (floor_of (k m) a.loop.r) (start a).args.count (λ z. c.if1.false (found m ∙ z)) in
-    (on.0, found m ∙ on.1 ∙ ap (floor_of (k m)) (sym (add-one a.loop.r)))
+    let on = climbed-on (start_of (k m) a.loop-r.r) (step_of (k m) a.loop-r.r) (more_of (k m) a.loop-r.r) (floor_of (k m) a.loop-r.r) (start a).args.count (λ z. c.if-floor-eq0.false (found m ∙ z)) in
+    (on.0, found m ∙ on.1 ∙ ap (floor_of (k m)) (sym (add-one a.loop-r.r)))
 
-loop-again : tie.Need-loop-preserved invariant-loop decreases-loop
+loop-again : tie.Need-loop-r-preserved invariant-loop decreases-loop
 loop-again c =
     let m = c.before in
     let a = at m in (
       omega arith,
-      before-next (start a).args.ends.now a.loop.r,
+      before-next (start a).args.ends.now a.loop-r.r,
       (passed c).1,
-      below_more (λ j. run_fits (k m) (start a).args.count j ≡ true) a.loop.r a.loop.inv.3 (passed c).0,
+      below_more (λ j. run_fits (k m) (start a).args.count j ≡ true) a.loop-r.r a.loop-r.invariant.3 (passed c).0,
     )
 
-returns-2 : tie.Need-returns-2 invariant-loop decreases-loop
+returns-2 : tie.Need-returns invariant-loop decreases-loop
 unfolding all_fit
 returns-2 c =
     let a = c.before in
-    sym (all-in (run_fits (col (start a)) (start a).args.count) 0 (length (start a).args.ends.now) (λ j m l. a.loop.invariant.3 j (omega arith)))
+    sym (all-in (run_fits (col (start a)) (start a).args.count) 0 (length (start a).args.ends.now) (λ j m l. a.loop-r.invariant.3 j (omega arith)))
 
-pub fits-spec : {M : Type 1} → statement M
-fits-spec = tie.close (tie.spec invariant-loop decreases-loop loop-holds mul-end shared-slice-read-end mul-climb shared-slice-copy-out-climb mul-climb-2 shared-slice-copy-out-climb-2 sub-climb sub-climb-2 climb-requires returns add_r loop-less loop-again returns-2)
+pub fits_spec : {M : Type 1} → statement M
+fits_spec = tie.close (tie.spec invariant-loop decreases-loop loop-holds mul-end shared-slice-read-end mul-climb shared-slice-copy-out-climb mul-climb-2 shared-slice-copy-out-climb-2 sub-climb sub-climb-2 climb-requires returns add_r loop-less loop-again returns-2)

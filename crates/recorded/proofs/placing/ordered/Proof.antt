@@ -18,27 +18,27 @@ ok s = sound-passes (col s) s.requires
 new-requires : tie.Need-new-requires
 new-requires c κs = search rules
 
-enum-known-why : tie.Need-enum-known-why
+enum-known-why : tie.Need-enum_known-why
 enum-known-why c = search rules
 
-enum-known-scan : tie.Need-enum-known-scan
+enum-known-scan : tie.Need-enum_known-scan
 enum-known-scan c = search rules
 
-seek-requires : tie.Need-seek-requires
+seek-requires : tie.Need-seek-moved-requires
 seek-requires c κs = search rules
 
-enum-known-answer : tie.Need-enum-known-answer
+enum-known-answer : tie.Need-enum_known-answer
 enum-known-answer c = search rules
 
-enum-known-answer-2 : tie.Need-enum-known-answer-2
+enum-known-answer-2 : tie.Need-enum_known-answer-in-Value-1
 enum-known-answer-2 c = search rules
 
-enum_told : tie.Need-enum-told
+enum_told : tie.Need-enum_told-1
 enum_told c = search rules
 
 -- the seek
-module _ (c : tie.After-seek) where
-  abbrev at-scan : tie.After-scan
+module _ (c : tie.After-seek-moved) where
+  abbrev at-scan : tie.In-Ready-2
   at-scan = c.before.before
 
   abbrev at_new : tie.After-new
@@ -47,29 +47,29 @@ module _ (c : tie.After-seek) where
   abbrev st : tie.Start
   st = at_new.before.before
 
-returns : tie.Need-returns
+returns : tie.Need-returns-in-Refused
 returns c =
     let w = c.before in
     let n = w.before.before in
     let s = n.before.before in
-    new-not (source_of (col s)) (ok s) _ _ n.new.ensures w.why.given.1
+    new-not (source_of (col s)) (ok s) _ _ n.new.ensures w.in-Refused.is
 
-returns-2 : tie.Need-returns-2
+returns-2 : tie.Need-returns-in-Refused-answer
 returns-2 c =
     let a = c.before in
     let k = a.before.before in
-    told-flat (source_of (col (st k))) (ok (st k)) _ _ (at_new k).new.ensures (at-scan k).scan.given.1 _ k.seek.result k.seek.ensures _ (ap says_answer a.answer.given.1)
+    told-flat (source_of (col (st k))) (ok (st k)) _ _ (at_new k).new.ensures (at-scan k).in-Ready.is _ k.seek-moved.result k.seek-moved.ensures _ (ap says_answer a.in-Refused-answer.is)
 
-returns-3 : tie.Need-returns-3
+returns-3 : tie.Need-returns-in-Value
 returns-3 c =
     let a = c.before in
     let k = a.before.before in
-    told-up (source_of (col (st k))) (ok (st k)) _ _ (at_new k).new.ensures (at-scan k).scan.given.1 _ k.seek.result k.seek.ensures _ (ap says_answer a.answer2.given.1)
+    told-up (source_of (col (st k))) (ok (st k)) _ _ (at_new k).new.ensures (at-scan k).in-Ready.is _ k.seek-moved.result k.seek-moved.ensures _ (ap says_answer a.in-Value.is)
 
-returns-4 : tie.Need-returns-4
+returns-4 : tie.Need-returns-in-None
 returns-4 c =
     let k = c.before.before in
-    told-up (source_of (col (st k))) (ok (st k)) _ _ (at_new k).new.ensures (at-scan k).scan.given.1 _ k.seek.result k.seek.ensures _ (ap says_answer c.enum_told.given.1)
+    told-up (source_of (col (st k))) (ok (st k)) _ _ (at_new k).new.ensures (at-scan k).in-Ready.is _ k.seek-moved.result k.seek-moved.ensures _ (ap says_answer c.in-None.is)
 
-pub ordered-spec : {M : Type 1} → statement M
-ordered-spec = tie.close (tie.spec new-requires enum-known-why enum-known-scan seek-requires enum-known-answer enum-known-answer-2 enum_told returns returns-2 returns-3 returns-4)
+pub ordered_spec : {M : Type 1} → statement M
+ordered_spec = tie.close (tie.spec new-requires enum-known-why enum-known-scan seek-requires enum-known-answer enum-known-answer-2 enum_told returns returns-2 returns-3 returns-4)

@@ -19,19 +19,19 @@ from c = let s = start c in omega (arith, c.units.ensures, units-from s.args.s.t
 to : (c : tie.After-units) → c.units.result - (start c).args.count < 8589934592
 to c = let s = start c in omega (arith, c.units.ensures, units-to s.args.s.top s.args.s.mid s.args.s.low s.args.count s.pre.1)
 
-add-mid : tie.Need-overflow-add-mid
+add-mid : tie.Need-overflow_add-mid
 add-mid c = search rules
 
 units-requires : tie.Need-units-requires
 units-requires c κs = search rules
 
-sub-unbias : tie.Need-overflow-sub-unbias
+sub-unbias : tie.Need-overflow_sub-units
 sub-unbias c = from c
 
-mul-unbias : tie.Need-overflow-mul-unbias
+mul-unbias : tie.Need-overflow_mul-units
 mul-unbias c = record { fits = omega (arith, to c) }
 
-add-unbias : tie.Need-overflow-add-unbias
+add-unbias : tie.Need-overflow_add-units
 add-unbias c = record { fits = omega (arith, to c) }
 
 unbias-requires : tie.Need-unbias-requires
@@ -43,7 +43,5 @@ returns c = let s = start c.before in
     ∙ ap (λ u. unkey half64 ((u - s.args.count) * 2147483648 + (s.args.s.mid + s.args.s.low / 4294967296) % 2147483648)) c.before.units.ensures
     ∙ units-high s.args.s.top s.args.s.mid s.args.s.low s.args.count s.pre.1
 
-pub high-of-spec : {M : Type 1} → statement M
-high-of-spec =
-    tie.close
-    (tie.spec add-mid units-requires sub-unbias mul-unbias add-unbias unbias-requires returns)
+pub high_of_spec : {M : Type 1} → statement M
+high_of_spec = tie.close (tie.spec add-mid units-requires sub-unbias mul-unbias add-unbias unbias-requires returns)

@@ -36,5 +36,5 @@ returns : tie.Need-returns
 returns c = let s = c.before.before.before in
     stretch-told _ _ _ _ s.ranges.start.sfits s.requires.0 s.requires.2 _ _ _ (of_low c.before.before) (of-step c.before) c.spread.ensures
 
-pub stretch-spec : {M : Type 1} → statement M
-stretch-spec = tie.close (tie.spec lowest-requires size16-requires spread-requires returns)
+pub stretch_spec : {M : Type 1} → statement M
+stretch_spec = tie.close (tie.spec lowest-requires size16-requires spread-requires returns)

@@ -14,65 +14,51 @@ use borrow.Author.Rules.{rules}
 use Rattle.totals.proofs.writing.put_signed.Statement.{statement}
 use Rattle.totals.proofs.writing.put_signed.Tie as tie
 
-abbrev invariant-loop : tie.invariant-loop
+abbrev invariant-loop : tie.invariant-loop-k
 invariant-loop values out₀ k₀ out k = (k ≤ length values) × (out ≡ sets out₀ 0 (each (λ j. get_or values j (pos 0)) k))
 
-abbrev decreases-loop : tie.decreases-loop
+abbrev decreases-loop : tie.decreases-loop-k
 decreases-loop values out₀ k₀ out k = length values - k
 
-long : (c : tie.At-loop invariant-loop decreases-loop) → length c.loop.out ≡ length c.before.args.out.now
+long : (c : tie.At-loop-k invariant-loop decreases-loop) → length c.loop-k.out-1 ≡ length c.before.args.out-1.now
 long c =
     let a = c.before.args in
-    ap length c.loop.invariant.1 ∙ length-sets a.out.now 0 (each (λ k. get_or a.values.now k (pos 0)) c.loop.k)
+    ap length c.loop-k.invariant.1 ∙ length-sets a.out-1.now 0 (each (λ k. get_or a.values.now k (pos 0)) c.loop-k.k)
 
-loop-holds : tie.Need-loop-init invariant-loop decreases-loop
+loop-holds : tie.Need-loop-k-init invariant-loop decreases-loop
 unfolding joined
 loop-holds c = (omega arith, refl)
 
-mul-out : tie.Need-overflow-mul-out invariant-loop decreases-loop
+mul-out : tie.Need-offset_bounds-values-k invariant-loop decreases-loop
 mul-out c = search rules
 
-shared-slice-copy-out-out : tie.Need-shared-slice-copy-out-out invariant-loop decreases-loop
+shared-slice-copy-out-out : tie.Need-bounds-values-k invariant-loop decreases-loop
 shared-slice-copy-out-out c = search rules
 
-mul-t8 : tie.Need-overflow-mul-t8 invariant-loop decreases-loop
+mul-t8 : tie.Need-offset_bounds-out-k invariant-loop decreases-loop
 mul-t8 c = search rules
 
-slice-set-from-out : tie.Need-slice-set-from-out invariant-loop decreases-loop
+slice-set-from-out : tie.Need-bounds-out-k invariant-loop decreases-loop
 slice-set-from-out c = omega (arith, long c.before.before, c.before.before.before.requires)
 
-add-k : tie.Need-overflow-add-k invariant-loop decreases-loop
+add-k : tie.Need-overflow_add-k invariant-loop decreases-loop
 add-k c = search rules
 
-loop-less : tie.Need-loop-smaller invariant-loop decreases-loop
+loop-less : tie.Need-loop-k-smaller invariant-loop decreases-loop
 loop-less c = search rules
 
-loop-again : tie.Need-loop-preserved invariant-loop decreases-loop
+loop-again : tie.Need-loop-k-preserved invariant-loop decreases-loop
 loop-again c = let l = c.before.before in
     let s = l.before in
-    (omega arith, each_more (λ k. get_or s.args.values.now k (pos 0)) l.loop.out s.args.out.now l.loop.k _ l.loop.invariant.1 (back w64 _ c.out.given))
+    (omega arith, each_more (λ k. get_or s.args.values.now k (pos 0)) l.loop-k.out-1 s.args.out-1.now l.loop-k.k _ l.loop-k.invariant.1 (back w64 _ c.out-1.given))
 
-same_length : tie.Need-same-length invariant-loop decreases-loop
+same_length : tie.Need-shape_of-out invariant-loop decreases-loop
 same_length c = long c.before
 
 returns : tie.Need-returns invariant-loop decreases-loop
 returns c = let l = c.before in
     let s = l.before in
-    filled-by (pos 0) s.args.values.now l.loop.out s.args.out.now l.loop.k (omega (arith, l.loop.invariant.0)) s.requires l.loop.invariant.1
+    filled-by (pos 0) s.args.values.now l.loop-k.out-1 s.args.out-1.now l.loop-k.k (omega (arith, l.loop-k.invariant.0)) s.requires l.loop-k.invariant.1
 
-pub put-signed-spec : {M : Type 1} → statement M
-put-signed-spec =
-    tie.close
-    (tie.spec
-    invariant-loop
-    decreases-loop
-    loop-holds
-    mul-out
-    shared-slice-copy-out-out
-    mul-t8
-    slice-set-from-out
-    add-k
-    loop-less
-    loop-again
-    same_length
-    returns)
+pub put_signed_spec : {M : Type 1} → statement M
+put_signed_spec = tie.close (tie.spec invariant-loop decreases-loop loop-holds mul-out shared-slice-copy-out-out mul-t8 slice-set-from-out add-k loop-less loop-again same_length returns)

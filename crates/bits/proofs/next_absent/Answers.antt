@@ -1,0 +1,6 @@
+-- `next_absent` meets its contract. Assumes nothing.
+use borrow.Author.Rules.{rules}
+use Rattle.bits.proofs.next_absent.Goals as goal
+
+pub returns : goal.returns
+returns c = c.next_sought.ensures

@@ -1,0 +1,14 @@
+-- `loftsplice_export` meets its contract: the call, flattened. Assumes nothing.
+use mathlib.Core.Path.{ap, ◌∙◌}
+use Rattle.c_bitmap.specs.Bitmaps.{flat_exported}
+use borrow.Author.Rules.{rules}
+use Rattle.c_bitmap.proofs.loftsplice_export.Goals as goal
+
+pub returns : goal.returns
+returns c =
+    let at_out = c.before in
+    let r = at_out.export-answer in
+    record {
+  value = c.flat_exported.ensures ∙ ap flat_exported r.ensures.0;
+  leaves = rw r.ensures.0 at r.ensures.1;
+}

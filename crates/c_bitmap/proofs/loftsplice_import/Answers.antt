@@ -1,0 +1,15 @@
+-- `loftsplice_import` meets its contract: the call, flattened. Assumes nothing.
+use mathlib.Core.Path.{ap, ◌∙◌}
+use Rattle.c_bitmap.specs.Bitmaps.{flat_imported}
+use borrow.Author.Rules.{rules}
+use Rattle.c_bitmap.proofs.loftsplice_import.Goals as goal
+
+pub returns : goal.returns
+returns c =
+    let at-flat = c.before.before.before in
+    let r = at-flat.import-answer in record {
+  value = c.flat_imported.ensures ∙ ap flat_imported r.ensures.0;
+  leaves = rw r.ensures.0 at r.ensures.1.0;
+  leaves_2 = rw r.ensures.0 at r.ensures.1.1.0;
+  leaves_3 = rw r.ensures.0 at r.ensures.1.1.1;
+}

@@ -1,0 +1,14 @@
+-- `loftsplice_check` meets its contract. Assumes nothing.
+use Rattle.checked.specs.Says.{says_checked}
+use Rattle.c_forms.specs.Flat.{refusal_in}
+use Rattle.c_forms.proofs.Carried.{carried}
+use borrow.Author.Rules.{rules}
+use Rattle.c_column.proofs.loftsplice_check.Goals as goal
+
+pub returns-in-Fine : goal.returns-in-Fine
+returns-in-Fine c = carried says_checked refusal_in c.check-checked.ensures c.in-Fine.is
+
+pub returns-in-Refused : goal.returns-in-Refused
+returns-in-Refused c =
+    let at-match = c.before.before in
+    rw c.number.ensures (carried says_checked refusal_in at-match.check-checked.ensures at-match.in-Refused.is)

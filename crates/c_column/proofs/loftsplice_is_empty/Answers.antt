@@ -1,0 +1,17 @@
+-- `loftsplice_is_empty` meets its contract. Assumes nothing.
+use Rattle.loftsplice.specs.Says.{says_emptiness}
+use Rattle.c_column.specs.Column.{flat_emptiness}
+use Rattle.c_forms.proofs.Carried.{carried}
+use borrow.Author.Rules.{rules}
+use Rattle.c_column.proofs.loftsplice_is_empty.Goals as goal
+
+pub returns-in-Empty : goal.returns-in-Empty
+returns-in-Empty c = carried says_emptiness flat_emptiness c.is_empty-answer.ensures c.in-Empty.is
+
+pub returns-in-Held : goal.returns-in-Held
+returns-in-Held c = carried says_emptiness flat_emptiness c.is_empty-answer.ensures c.in-Held.is
+
+pub returns-in-Refused : goal.returns-in-Refused
+returns-in-Refused c =
+    let at-match = c.before.before in
+    rw c.number.ensures (carried says_emptiness flat_emptiness at-match.is_empty-answer.ensures at-match.in-Refused.is)

@@ -1,0 +1,19 @@
+-- `limits::inputs_of` meets its contract. The loop's invariant: the places passed are filled. Assumes nothing.
+use Prim.Native.Nat.{◌-◌}
+use mathlib.Core.Path.{refl}
+use native.Mathlib.Omega.{arith}
+use Rattle.c_forms.specs.Limits.{input_at}
+use Rattle.c_forms.proofs.Lists.{Filling, filling-start, filling-more, filling-all}
+use borrow.Author.Rules.{rules}
+use Rattle.c_forms.proofs.limits.inputs_of.Goals as goal
+
+pub loop-i-init : goal.loop-i-init
+loop-i-init c = filling-start _ _ _ refl
+
+pub loop-i-preserved : goal.loop-i-preserved
+loop-i-preserved c =
+    let at = c.loop-i in
+    filling-more _ _ _ at.items at.i _ at.invariant c.loop-i-test.true c.input_at.ensures
+
+pub returns : goal.returns
+returns c = rw (filling-all _ _ _ c.loop-i.items c.loop-i.i c.loop-i.invariant (omega arith))

@@ -1,0 +1,16 @@
+-- `loftsplice_carries` meets its contract: the call, flattened, by the byte that stands for the number. Assumes nothing.
+use mathlib.Core.Path.{sym, ap, ◌∙◌}
+use mathlib.Core.Logic.{⊎_elim}
+use Rattle.c_profiles.specs.Profiles.{flat_carried}
+use Rattle.c_profiles.proofs.Bytes.{kind, carries-16}
+use borrow.Author.Rules.{rules}
+use Rattle.c_profiles.proofs.loftsplice_carries.Goals as goal
+
+pub returns : goal.returns
+returns c =
+    let at_call = c.before in
+    let at_byte = at_call.before in
+    let said = rw at_byte.profile_in-byte.ensures at at_call.carries-answer.ensures in
+    c.flat_carried.ensures ∙ ap flat_carried (
+    ⊎_elim (λ own. rw own at said) (λ none. said ∙ carries-16 none.1 _ _ _ ∙ sym (carries-16 none.0 _ _ _)) (kind at_byte.args.profile)
+    )

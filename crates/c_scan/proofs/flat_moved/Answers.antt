@@ -1,0 +1,12 @@
+-- `flat_moved` meets its contract. Assumes nothing.
+use borrow.Author.Rules.{rules}
+use Rattle.c_scan.proofs.flat_moved.Goals as goal
+
+pub returns-in-Refused : goal.returns-in-Refused
+returns-in-Refused c = rw (c.flat_answer-told.ensures, c.in-Refused.is)
+
+pub returns-in-Value : goal.returns-in-Value
+returns-in-Value c = rw (c.flat_answer-told.ensures, c.flat_scan.ensures, c.in-Value.is)
+
+pub returns-in-None : goal.returns-in-None
+returns-in-None c = rw (c.flat_answer-told.ensures, c.flat_scan-in-None.ensures, c.in-None.is)

@@ -1,0 +1,18 @@
+-- `loftsplice_totals` meets its contract: the call, flattened. Assumes nothing.
+use mathlib.Core.Path.{ap, ◌∙◌}
+use Rattle.c_totals.specs.Totals.{flat_totalled}
+use borrow.Author.Rules.{rules}
+use Rattle.c_totals.proofs.loftsplice_totals.Goals as goal
+
+pub returns : goal.returns
+returns c = let h = c.before.before.before in
+    let k3 = h.before.before.before in
+    let r = k3.totals-answer in
+    let e = r.ensures.0 in record {
+  value = c.flat_totalled.ensures ∙ ap flat_totalled e;
+  leaves = rw e at r.ensures.1.0;
+  leaves_2 = rw e at r.ensures.1.1.0;
+  leaves_3 = rw e at r.ensures.1.1.1.0;
+  leaves_4 = rw e at r.ensures.1.1.1.1.0;
+  leaves_5 = rw e at r.ensures.1.1.1.1.1;
+}

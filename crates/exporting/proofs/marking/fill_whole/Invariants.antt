@@ -1,0 +1,13 @@
+use Prim.Native.Nat.{◌*◌, ◌-◌, ◌≤◌}
+use mathlib.Core.Path.{◌≡◌}
+use native.Mathlib.Omega.{arith}
+use borrow.Author.Rules.{rules}
+use Rattle.exporting.specs.Inner.{in_span, Marked}
+use Rattle.exporting.proofs.Spans.{mark-whole-none, mark-whole-next}
+use Rattle.exporting.proofs.marking.fill_whole.Given as goal
+
+abbrev pub invariant-loop-j : goal.invariant-loop-j
+invariant-loop-j l = (l.from ≤ l.j) × (l.j ≤ l.to) × Marked l.initial.bytes l.bytes (in_span (8 * l.from) (8 * l.j))
+
+abbrev pub decreases-loop-j : goal.decreases-loop-j
+decreases-loop-j l = l.to - l.j

@@ -1,0 +1,7 @@
+-- `marking::or_at` meets its contract: one byte. Assumes nothing.
+use borrow.Author.Rules.{rules}
+use Rattle.exporting.proofs.Marks.{mark-byte}
+use Rattle.exporting.proofs.marking.or_at.Goals as goal
+
+pub returns : goal.returns
+returns c = mark-byte c.args.bytes.now c.args.j c.args.mask c.requires.

@@ -1,0 +1,43 @@
+-- `marking::set_steps` meets its contract: the first k are marked. Assumes nothing.
+use Prim.Native.Nat.{ℕ, ◌+◌, ◌*◌, ◌-◌, ◌≤◌}
+use mathlib.Core.Path.{◌≡◌, refl, ap, ◌∙◌}
+use native.Mathlib.Omega.{arith}
+use borrow.Author.Rules.{rules}
+use lib.Dec.{eqb}
+use Rattle.ranges.specs.Ranges.{all_for}
+use Rattle.recorded.specs.Inner.{in_steps}
+use Rattle.exporting.specs.Inner.{Marked}
+use Rattle.exporting.proofs.Marks.{mark-none, mark-step, mark-as, next-at, last-at}
+use Rattle.exporting.proofs.marking.set_steps.Goals as goal
+
+pub loop-k-init : goal.loop-k-init
+unfolding all_for
+loop-k-init c = (omega arith, omega arith, mark-none c.args.bytes-1.now (in_steps c.args.start c.args.step 0) (λ i. refl))
+
+pub set_bit-requires : goal.set_bit-requires
+set_bit-requires c =
+    let up3 = c.before.before.before in
+    let s = up3.before in
+    omega (arith, last-at s.args.start s.args.step c.loop-k.k s.args.n c.loop-k-test.true, c.loop-k.invariant.2.long)
+
+pub overflow_add-at : goal.overflow_add-at
+overflow_add-at c =
+    let up3 = c.before.before.before in
+    let up4 = up3.before in
+    let up5 = up4.before in
+    let s = up5.before.before in
+    record { fits = omega (arith, last-at s.args.start s.args.step up5.loop-k.k s.args.n up4.loop-k-test.true) }
+
+pub loop-k-preserved : goal.loop-k-preserved
+loop-k-preserved c =
+    let up3 = c.before.before.before in
+    let up5 = up3.before.before in
+    let s = up5.before.before in (
+      omega arith,
+      ap (λ (x : ℕ). x + s.args.step) up5.loop-k.invariant.1 ∙ next-at s.args.start s.args.step up5.loop-k.k,
+      mark-step s.args.start s.args.step up5.loop-k.k up5.loop-k.invariant.2
+          (mark-as (λ i. eqb i (s.args.start + s.args.step * up5.loop-k.k)) c.set_bit.ensures (λ i. ap (eqb i) up5.loop-k.invariant.1)),
+    )
+
+pub returns : goal.returns
+returns c = let e : c.loop-k.k ≡ c.args.n = omega arith in rw e at c.loop-k.invariant.2

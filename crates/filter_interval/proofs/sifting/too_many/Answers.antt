@@ -1,0 +1,18 @@
+-- `sifting::too_many` meets its contract. Assumes nothing.
+use Rattle.filter_interval.proofs.FilterCases.{many-lower, many-upper, many-inputs}
+use Rattle.filter_interval.proofs.sifting.too_many.Goals as goal
+
+pub returns-then-lows-gt16 : goal.returns-then-lows-gt16
+returns-then-lows-gt16 c =
+    let s = c.before in
+    many-lower s.args.lows s.args.ups s.args.ins c.if-lows-gt16.true
+
+pub returns-then-ups-gt16 : goal.returns-then-ups-gt16
+returns-then-ups-gt16 c =
+    let s = c.before.before in
+    many-upper s.args.lows s.args.ups s.args.ins c.if-lows-gt16.false c.if-ups-gt16.true
+
+pub returns : goal.returns
+returns c =
+    let s = c.before.before in
+    many-inputs s.args.lows s.args.ups s.args.ins c.if-lows-gt16.false c.if-ups-gt16.false

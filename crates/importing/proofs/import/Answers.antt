@@ -1,0 +1,28 @@
+-- `import` meets its contract: count, bytes, and then the runs, kept in the room that so many records ask for. Assumes nothing.
+use mathlib.Core.Path.{refl}
+use native.Mathlib.Omega.{arith}
+use lib.ListN.{length}
+use Rattle.importing.proofs.Passing.{import-count, import-cut}
+use borrow.Author.Rules.{rules}
+use Rattle.importing.proofs.import.Goals as goal
+
+pub returns-then-count-gt524288 : goal.returns-then-count-gt524288
+returns-then-count-gt524288 c =
+    let s = c.before.before.before in
+    record {
+  result_value = import-count s.args.bytes.now s.args.count (length s.args.starts-1.now) (length s.args.ends-1.now) (length s.args.steps-1.now) c.if-count-gt524288.true;
+  leaves = refl;
+  leaves_2 = refl;
+  leaves_3 = refl;
+}
+
+pub returns-then-bytes-records : goal.returns-then-bytes-records
+returns-then-bytes-records c =
+    let e = c.before in
+    let s = e.before.before.before in
+    record {
+  result_value = import-cut s.args.bytes.now s.args.count (length s.args.starts-1.now) (length s.args.ends-1.now) (length s.args.steps-1.now) e.if-count-gt524288.false c.if-bytes-records.true;
+  leaves = refl;
+  leaves_2 = refl;
+  leaves_3 = refl;
+}

@@ -1,0 +1,14 @@
+-- `run_behind` meets its contract: by what is left of the window, or anew. Assumes nothing.
+use Prim.Native.Nat.{◌<◌}
+use native.Mathlib.Omega.{arith}
+use borrow.Author.Rules.{rules}
+use Rattle.importing.proofs.single.run_behind.Goals as goal
+
+pub returns-then-quickly-ne0 : goal.returns-then-quickly-ne0
+returns-then-quickly-ne0 c =
+    let t = c.before.before in
+    let some : 0 < t.told-quickly.result.n = omega (arith, c.if-quickly-ne0.true) in
+    record {
+  first = t.told-quickly.ensures.first some;
+  behind = t.told-quickly.ensures.behind-rest some;
+}

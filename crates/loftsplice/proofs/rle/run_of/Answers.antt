@@ -1,0 +1,29 @@
+-- `rle::run_of` meets its contract: the search's two ends bracket the run. Assumes nothing.
+use Rattle.std.proofs.Common.{◌-◌, arith, rules}
+use Rattle.meaning.proofs.Runs.{Bracket, bracket-start, bracket-up, bracket-met, bracket-lo, run-between}
+use Rattle.loftsplice.proofs.rle.run_of.Goals as goal
+
+pub loop-lo-init : goal.loop-lo-init
+loop-lo-init c = bracket-start _ _
+
+pub loop-lo-preserved-then-ends-mid : goal.loop-lo-preserved-then-ends-mid
+loop-lo-preserved-then-ends-mid c =
+    let at-loop = c.before.before.before in
+    let at-start = at-loop.before in
+    bracket-up at-loop.loop-lo.invariant _ at-start.requires. (omega arith) c.if-ends-mid.true
+
+pub returns-then-lo-hi : goal.returns-then-lo-hi
+returns-then-lo-hi c = bracket-met c.loop-lo.invariant c.if-lo-hi.true
+
+pub returns-then-mid-lo : goal.returns-then-mid-lo
+returns-then-mid-lo c =
+    let at-else1 = c.before.before.before in
+    let at-loop = at-else1.before in
+    bracket-lo at-loop.loop-lo.invariant _ c.if-mid-lo.true (omega arith) c.if-ends-mid.false
+
+pub returns-then-ends-mid-2 : goal.returns-then-ends-mid-2
+returns-then-ends-mid-2 c =
+    let at-else2 = c.before.before.before in
+    let at-loop = at-else2.before.before.before in
+    let at-start = at-loop.before in
+    run-between _ _ _ at-start.requires. (omega arith) (omega arith) c.if-ends-mid-2.true at-else2.if-ends-mid.false

@@ -1,0 +1,9 @@
+use Rattle.std.proofs.Common.{◌-◌, arith, rules}
+use Rattle.meaning.proofs.Runs.{Bracket, bracket-start, bracket-up, bracket-met, bracket-lo, run-between}
+use Rattle.loftsplice.proofs.rle.run_of.Given as goal
+
+abbrev pub invariant-loop-lo : goal.invariant-loop-lo
+invariant-loop-lo l = Bracket l.ends l.index l.lo l.hi
+
+abbrev pub decreases-loop-lo : goal.decreases-loop-lo
+decreases-loop-lo l = l.hi - l.lo

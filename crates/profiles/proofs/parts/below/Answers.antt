@@ -1,0 +1,19 @@
+-- `parts::below` meets its contract: none, all, or by one division. Assumes nothing.
+use Prim.Native.Nat.{◌-◌}
+use native.Mathlib.Omega.{arith}
+use native.Mathlib.Nat.{div-le_self}
+use Rattle.profiles.proofs.Strips.{below_none, below_all, below-some}
+use borrow.Author.Rules.{rules}
+use Rattle.profiles.proofs.parts.below.Goals as goal
+
+pub returns-then-x-first : goal.returns-then-x-first
+returns-then-x-first c = let s = c.before in below_none s.args.first s.args.step s.args.more s.args.x c.if-x-first.true
+
+pub returns-then-first-step : goal.returns-then-first-step
+returns-then-first-step c = let s = c.before.before in below_all s.args.first s.args.step s.args.more s.args.x c.if-first-step.true
+
+pub overflow_add-result-2 : goal.overflow_add-result-2
+overflow_add-result-2 c = let s = c.before.before in omega (arith, div-le_self (s.args.x - s.args.first - 1) s.args.step)
+
+pub returns : goal.returns
+returns c = let s = c.before.before in below-some s.args.first s.args.step s.args.more s.args.x s.requires..0 c.if-x-first.false c.if-first-step.false
