@@ -6,8 +6,8 @@
 Each pair `old:`, `new:` is turned word by word. What a word is called today is read off the file that the pair edits: its old text and today's, laid side by
 side. Where the text differs by more than spelling (a clause that is written another way, lines that were laid out anew) the pair stands in tools/port_edits.txt,
 as it was and as it is. An old text must stand once in today's file, in the line that stands where the old line stood; a new text must stand nowhere yet.
-The line `# fails:` gets today's name of the place and of the goal, by names.json (`rt names FOLDER --old-names`) where that folder is given by --names, and by
-the pairs of tools/port_edits.txt.
+The line `# fails:` stays as it is; with --names FOLDER it is written anew from what it was: a goal's name by the folder's names.json, which
+`rt names FOLDER --old-names` makes, a law's by tools/port_names.py. What `scripts/edits` then says of the first error is right where it differs.
 """
 import argparse
 import collections
@@ -17,6 +17,8 @@ import pathlib
 import re
 import subprocess
 import sys
+
+import port_names
 
 LANDED = pathlib.Path('docs/PORT.md').read_text().split()[0]
 HERE = pathlib.Path(__file__).resolve().parent
@@ -123,6 +125,18 @@ def moved(old, new, was, text):
     return False
 
 
+def named(path, line, folder, laws):
+    """A line `# fails:` with today's name of the goal or law."""
+    crate = path.split('/')[1]
+    place, goal, words = re.fullmatch(r'# fails: (\S+) (\S+):( .*)', line).groups()
+    file = pathlib.Path(folder) / f'crates/{crate}/names.json'
+    needs = {}
+    if file.is_file():
+        needs = dict(json.loads(file.read_text()).get(f'Rattle-{crate}-proofs.{place.replace("::", ".")}.Lts', {}).get('needs', []))
+    now = needs.get(goal) or laws.get((crate, f'proofs/{place.replace("::", "/")}.antt', goal)) or goal
+    return f'# fails: {place} {now}:{words}'
+
+
 def main():
     ask = argparse.ArgumentParser()
     ask.add_argument('--check', action='store_true')
@@ -130,6 +144,7 @@ def main():
     ask.add_argument('--show', action='store_true', help='prints each text that changed')
     given = ask.parse_args()
     by_hand, names, bad, texts = table(), Names(), 0, {}
+    laws = {(crate, file, then): now for crate, file, then, now in port_names.laws()} if given.names else {}
     for path in listed():
         texts[path] = show(path)
         for line in texts[path].splitlines():
@@ -138,6 +153,7 @@ def main():
                 names.read(file, file.replace('specs/Contracts', 'specs/Naming'))
     for path, text in texts.items():
         hand, file, out, lines = dict(by_hand.get(path, [])), None, [], text.splitlines()
+        fails = [x for x in pathlib.Path(path).read_text().splitlines() if x.startswith('# fails:')]
         here = {}
         used = set()
 
@@ -148,9 +164,8 @@ def main():
             return names.turn(file, line) if file else line
 
         for line in lines:
-            if line.startswith('# fails:') and line in hand:
-                used.add(line)
-                line = hand[line]
+            if line.startswith('# fails:'):
+                line = named(path, line, given.names, laws) if given.names else fails[0]
             if line.startswith('file: '):
                 file = '/'.join(path.split('/')[:2]) + '/' + line[6:]
                 line = line.replace('specs/Contracts', 'specs/Naming')

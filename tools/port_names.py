@@ -107,4 +107,5 @@ def main():
             pathlib.Path(page).write_text(new)
 
 
-main()
+if __name__ == '__main__':
+    main()
