@@ -60,6 +60,44 @@ def changed(folder, pairs):
     return before, after
 
 
+# ---- the names of goals and steps
+
+WORD = re.compile(r"[A-Za-z_][\w'-]*")
+
+
+def is_name_gone(text):
+    return re.search(r'has no .* that can be named from here|has no field|is not in scope', text) is not None
+
+
+def renamed(before, after, crate):
+    """For each function, by its folder below proofs/, the names that its goals and steps had and have, where they differ."""
+    out = {}
+    for key in before.keys() & after.keys():
+        if not isinstance(before[key], dict) or 'needs' not in before[key]:
+            continue
+        names = {}
+        for kinds in ('needs', 'steps', 'places', 'loops'):
+            then, now = all_names(before[key], kinds), all_names(after[key], kinds)
+            names.update({then[n]: now[n] for n in then.keys() & now.keys() if then[n] != now[n]})
+        for then, now in list(names.items()):
+            names[f'Need-{then}'] = f'Need-{now}'
+            names[f'invariant-{then}'], names[f'decreases-{then}'] = f'invariant-{now}', f'decreases-{now}'
+        if any(then != now for then, now in names.items()):
+            out[key.removeprefix(f'Rattle-{crate}-proofs.').removesuffix('.Lts').replace('.', '/')] = names
+    return out
+
+
+def all_names(listed, kinds):
+    """The names of a function, by those that go by their order."""
+    if kinds == 'needs':
+        return dict(listed['needs'])
+    if kinds == 'loops':
+        return dict(loop[0] for loop in listed['loops'])
+    if kinds == 'steps':
+        return dict(place[2] for place in listed['places'])
+    return {place[0]: name for place, name in zip(listed['places'], listed['places_by_name'])}
+
+
 # ---- the prover's answer
 
 START = re.compile(r'(?:note: )?(/?[^\s:]+\.(?:antt|rt)):\d+:\d+: (?:(error|note): )?(.*)')
@@ -119,8 +157,8 @@ def fact(says):
     return len(kinds) == 1 or named and 'computed as far as they go, the two types first differ where ' in says
 
 
-def judge(edit, status, text):
-    """Raises Bad unless the edit was refused where and as it says."""
+def judge(edit, status, text, known):
+    """Raises Bad unless the edit was refused where and as it says; known: what a name of the edited code was in the code unedited."""
     if status == 0:
         raise Bad('NOT REFUSED: the crate is still proved')
     if 'logic=not-proved' not in text:
@@ -128,6 +166,7 @@ def judge(edit, status, text):
     found = first_error(text, edit.crate)
     if found is None:
         raise Bad('no error that can be read: ' + ' '.join(text.split())[-300:])
+    found = found._replace(goal=known.get((found.place, found.goal), found.goal))
     where = f'{found.place} {found.goal}: {found.says[:300]}'
     if not fact(found.says):
         raise Bad(f'refused, but a proof no longer fits, which shows no fact: {where}')
