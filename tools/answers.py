@@ -121,8 +121,8 @@ class Turned:
                 out.append(p)
             elif p == 'fits' and rest and rest[0] != 'sfits':
                 out.append('ranges')
-            elif p in ('inv', 'type-inv'):
-                out.append({'inv': 'invariant'}.get(p, 'type_inv'))
+            elif p in ('inv', 'type-inv', 'well-formed'):
+                out.append({'inv': 'invariant'}.get(p, p.replace('-', '_')))
             elif p in ('taken', 'left', 'true', 'false', 'fact'):
                 key = norm(parts[i - 1]) if i else ''
                 now = {'taken': 'true', 'left': 'false'}.get(p, p)
@@ -139,7 +139,7 @@ class Turned:
                     out += list(hit[0])
                     i += 1 + hit[1]
                     continue
-                if norm(p) in self.fields:
+                if norm(p) in self.fields and all(q == 'before' for q in parts[:i]):
                     out.append(self.fields[norm(p)])
                     if rest[:1] == ['ensures'] and norm(p) in self.clauses:
                         out.append('ensures')
@@ -237,7 +237,7 @@ class Turned:
         return parts
 
     def goal(self, need):
-        return self.needs.get(need) or self.needs.get(re.sub(r'^(overflow|slice)-', '', need)) or self.needs.get(need.replace('overflow-', ''))
+        return self.needs.get(need) or self.needs.get(re.sub(r'^(overflow|slice)-', '', need)) or self.needs.get(need.replace('overflow-', '')) or self.needs.get(re.sub(r'^nonzero-', '', need)) or self.needs.get(re.sub(r'^slice-bounds-', 'part-', need))
 
     def split(self, name, code):
         """A declaration's `unfolding` line, its parameters and its body."""

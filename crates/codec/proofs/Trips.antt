@@ -213,6 +213,6 @@ module _ (bytes : List ℕ) (starts ends steps : ℕ) (f : Found) (h : read_of b
 -- ---- "one run (10,-5,2) is stored as 10 00 00 00 01 00 0A 00 00 00 00 00 00 00 FB FF 02 00 00 00"
 
 pub example : record_of (column_of (pos 10 ∷ []) (2 ∷ []) (negsuc 4 ∷ []))
-    ≡ 0x10 ∷ 0 ∷ 0 ∷ 0 ∷ 1 ∷ 0 ∷ 0x0_a ∷ 0 ∷ 0 ∷ 0 ∷ 0 ∷ 0 ∷ 0 ∷ 0 ∷ 0x_fb ∷ 0x_ff ∷ 2 ∷ 0 ∷ 0 ∷ 0 ∷ []
+    ≡ 0x10 ∷ 0 ∷ 0 ∷ 0 ∷ 1 ∷ 0 ∷ 0x0A ∷ 0 ∷ 0 ∷ 0 ∷ 0 ∷ 0 ∷ 0 ∷ 0 ∷ 0xFB ∷ 0xFF ∷ 2 ∷ 0 ∷ 0 ∷ 0 ∷ []
 unfolding record_of joined run_bytes le_bytes of_signed end_before
 example = refl

@@ -13,13 +13,13 @@ abbrev values : tie.Start → List ℤ
 values s = s.args.values.now
 
 abbrev starts : tie.Start → ℕ
-starts s = length s.args.starts-1.now
+starts s = length s.args.starts.now
 
 abbrev ends : tie.Start → ℕ
-ends s = length s.args.ends-1.now
+ends s = length s.args.ends.now
 
 abbrev steps : tie.Start → ℕ
-steps s = length s.args.steps-1.now
+steps s = length s.args.steps.now
 
 returns : tie.Need-returns-then-values-gt4294967295
 returns c = let s = c.before.before in (build-long (values s) (starts s) (ends s) (steps s) c.if-values-gt4294967295.true, (refl, (refl, refl)))
@@ -81,8 +81,8 @@ returns-6 c =
     let l3 : length col.steps-1 ≤ steps s = omega (arith, length-map (runs_of (values s)) (λ (r : Run). r.step), m, e.if-steps-n.false) in (
       build-fine (values s) (starts s) (ends s) (steps s) k.count_runs-n.result n k.before.if-values-gt4294967295.false few.if-n-gt4096.false e.before.before.if-starts-n.false e.before.if-ends-n.false e.if-steps-n.false,
       (
-        w.write_runs.ensures.0 ∙ filled col.starts-1 s.args.starts-1.now l1,
-        (w.write_runs.ensures.1.0 ∙ filled col.ends-1 s.args.ends-1.now l2, w.write_runs.ensures.1.1 ∙ filled col.steps-1 s.args.steps-1.now l3),
+        w.write_runs.ensures.0 ∙ filled col.starts-1 s.args.starts.now l1,
+        (w.write_runs.ensures.1.0 ∙ filled col.ends-1 s.args.ends.now l2, w.write_runs.ensures.1.1 ∙ filled col.steps-1 s.args.steps.now l3),
       ),
     )
 

@@ -21,7 +21,7 @@ abbrev decreases-loop : tie.decreases-loop-i
 decreases-loop values starts₀ ends₀ steps₀ n₀ i₀ starts ends steps n i = length values - i
 
 -- the lengths are as they were
-long-starts : (c : tie.At-loop-i invariant-loop decreases-loop) → length c.loop-i.starts-1 ≡ length c.before.before.args.starts-1.now
+long-starts : (c : tie.At-loop-i invariant-loop decreases-loop) → length c.loop-i.starts ≡ length c.before.before.args.starts.now
 long-starts c = ap length c.loop-i.invariant.1 ∙ simp length-sets
 
 long-ends : (c : tie.At-loop-i invariant-loop decreases-loop) → length c.loop-i.ends ≡ length c.before.before.args.ends.now
@@ -83,7 +83,7 @@ loop-again c =
     let values = s.args.values.now in
     let t = i.loop-i-test.true in (
       passed-more values l.n l.i l.invariant.0 t r.run_at-run.result.end r.run_at-run.ensures.0 r.run_at-run.ensures.1.1,
-      each_more (start_of (built_from values)) l.starts-1 s.args.starts-1.now l.n _ l.invariant.1 (back w64 _ c.starts-1.given ∙ next_start values l.n l.i l.invariant.0 t),
+      each_more (start_of (built_from values)) l.starts-1 s.args.starts.now l.n _ l.invariant.1 (back w64 _ c.starts-1.given ∙ next_start values l.n l.i l.invariant.0 t),
       each_more (end_of (built_from values)) l.ends s.args.ends.now l.n _ l.invariant.2 (next-end values l.n l.i l.invariant.0 t r.run_at-run.result.end r.run_at-run.ensures.0),
       each_more (step_of (built_from values)) l.steps s.args.steps.now l.n _ l.invariant.3 (back w16 r.run_at-run.result.step c.before.struct_told-1.given.1.0.1 ∙ r.run_at-run.ensures.1.0 ∙ next-step values l.n l.i l.invariant.0 t),
     )

@@ -34,6 +34,6 @@ returns c =
     let l = c.before.before in
     let t = l.before.before in
     let s = t.before.before.before in record {
-  result_value = says-bytes s.args.count (length s.args.out-1.now) t.if-out-used.false;
-  leaves = left_is (carries_record (sequence_of (column_now s.args.starts s.args.ends s.args.steps))) (bytes_for s.args.count) _ s.args.out-1.now l.fill.ensures;
+  result_value = says-bytes s.args.count (length s.args.out.now) t.if-out-used.false;
+  leaves = left_is (carries_record (sequence_of (column_now s.args.starts s.args.ends s.args.steps))) (bytes_for s.args.count) _ s.args.out.now l.fill.ensures;
 }

@@ -18,7 +18,7 @@ mark_runs-requires c =
     record {
   steps_value = s.requires.steps_value;
   count_value = s.requires.count_value;
-  count_bound = (s.requires.count_bound.0, omega (arith, ap length cleared.clear.ensures ∙ length-replicate (length s.args.bytes-1.now) 0, s.requires.count_bound.1));
+  count_bound = (s.requires.count_bound.0, omega (arith, ap length cleared.clear.ensures ∙ length-replicate (length s.args.bytes.now) 0, s.requires.count_bound.1));
 }
 
 pub shape_of-bytes : goal.shape_of-bytes
@@ -28,7 +28,7 @@ shape_of-bytes c =
     let cleared = held.before.before in
     let known = cleared.before.before in
     let s = known.before.before in
-    marked.mark_runs.ensures.long ∙ ap length cleared.clear.ensures ∙ length-replicate (length s.args.bytes-1.now) 0
+    marked.mark_runs.ensures.long ∙ ap length cleared.clear.ensures ∙ length-replicate (length s.args.bytes.now) 0
 
 pub returns : goal.returns
 returns c =
@@ -38,4 +38,4 @@ returns c =
     let known = cleared.before.before in
     let s = known.before.before in
     let p = carries_record (sequence_of (column_now s.args.starts s.args.ends s.args.steps)) in
-    written s.args.bytes-1.now p cleared.clear.ensures marked.mark_runs.ensures (λ j. (c.slice_known-3-1.given j).fits) ∙ ap (bitmap_of p 0) s.requires.count_bound.1
+    written s.args.bytes.now p cleared.clear.ensures marked.mark_runs.ensures (λ j. (c.slice_known-3-1.given j).fits) ∙ ap (bitmap_of p 0) s.requires.count_bound.1

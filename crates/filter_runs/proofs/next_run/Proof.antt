@@ -25,14 +25,14 @@ returns c =
     let at-answer = c.before in
     let at_next = at-answer.before.before.before in
     let s = at_next.before.before in
-    next-refused (col s) (handed s) s.args.filter at_next.next-first.result at_next.next-first.ensures s.args.out-1.now at-answer.in-Refused.why at-answer.in-Refused.is
+    next-refused (col s) (handed s) s.args.filter at_next.next-first.result at_next.next-first.ensures s.args.out.now at-answer.in-Refused.why at-answer.in-Refused.is
 
 returns-2 : tie.Need-returns-then-out-eq0
 returns-2 c =
     let at-keys = c.before in
     let at_next = at-keys.before.before in
     let s = at_next.before.before in
-    next-nowhere (col s) (handed s) s.args.filter at_next.next-first.result at_next.next-first.ensures s.args.out-1.now at-keys.in-Refused.keys2 c.if-out-eq0.true
+    next-nowhere (col s) (handed s) s.args.filter at_next.next-first.result at_next.next-first.ensures s.args.out.now at-keys.in-Refused.keys2 c.if-out-eq0.true
 
 enum_told : tie.Need-enum_told-1
 enum_told c = search rules
@@ -43,7 +43,7 @@ nexts-on-requires c κs =
     let at-else = at_told.before.before in
     let at_next = at-else.before.before.before in
     let s = at_next.before.before in
-    (next-stands (col s) (handed s) s.args.filter at_next.next-first.result at_next.next-first.ensures s.args.out-1.now at_told.in-Value.field-0 at_told.in-Value.is).0
+    (next-stands (col s) (handed s) s.args.filter at_next.next-first.result at_next.next-first.ensures s.args.out.now at_told.in-Value.field-0 at_told.in-Value.is).0
 
 same_length : tie.Need-shape_of-out-in-Value
 same_length c = search rules
@@ -55,7 +55,7 @@ returns-3 c =
     let at-else = at_told.before.before in
     let at_next = at-else.before.before.before in
     let s = at_next.before.before in
-    next-some (col s) (handed s) s.args.filter at_next.next-first.result at_next.next-first.ensures s.args.out-1.now at_told.in-Value.field-0 at_told.in-Value.is
+    next-some (col s) (handed s) s.args.filter at_next.next-first.result at_next.next-first.ensures s.args.out.now at_told.in-Value.field-0 at_told.in-Value.is
     (omega (arith, at-else.if-out-eq0.false)) (filter_tally_of at_on.nexts_on.result) _ at_on.nexts_on.ensures.0 at_on.nexts_on.ensures.1
 
 returns-4 : tie.Need-returns
@@ -64,7 +64,7 @@ returns-4 c =
     let at-keys = at-else.before in
     let at_next = at-keys.before.before in
     let s = at_next.before.before in
-    next-none (col s) (handed s) s.args.filter at_next.next-first.result at_next.next-first.ensures s.args.out-1.now at-keys.in-Refused.keys2 c.in-Value.keys2
+    next-none (col s) (handed s) s.args.filter at_next.next-first.result at_next.next-first.ensures s.args.out.now at-keys.in-Refused.keys2 c.in-Value.keys2
     (omega (arith, at-else.if-out-eq0.false))
 
 pub next_run_spec : {M : Type 1} → statement M

@@ -55,10 +55,10 @@ returns c =
     let s = at-limit.before.before.before in
     let n = at-counted.in-Values.values in (
       ap (λ (g : Filter). record { filter = g; said = Gives n }) c.moved_on.ensures
-          ∙ on-short (col s) s.args.filter s.requires s.args.out-1.now at-limit.limit_of-up.result at-start.stands_at-start.result at-stop.stands_at-stop.result at-pass.pass-over.result
+          ∙ on-short (col s) s.args.filter s.requires s.args.out.now at-limit.limit_of-up.result at-start.stands_at-start.result at-stop.stands_at-stop.result at-pass.pass-over.result
           at-limit.limit_of-up.ensures at-start.stands_at-start.ensures at-pass.pass-over.ensures at-stop.stands_at-stop.ensures
           (tally_of at-run.next_run-ran.result) at-run.next_run-ran.ensures.0 n (ap says_counted at-counted.in-Values.is) c.before.if-values-places.true,
-      on_out (col s) s.args.filter s.requires s.args.out-1.now at-limit.limit_of-up.result at-start.stands_at-start.result at-stop.stands_at-stop.result at-pass.pass-over.result
+      on_out (col s) s.args.filter s.requires s.args.out.now at-limit.limit_of-up.result at-start.stands_at-start.result at-stop.stands_at-stop.result at-pass.pass-over.result
           at-limit.limit_of-up.ensures at-start.stands_at-start.ensures at-pass.pass-over.ensures at-stop.stands_at-stop.ensures _ at-run.next_run-ran.ensures.1,
     )
 
@@ -78,7 +78,7 @@ returns-2 c =
     let at-start = at-pass.before in
     let at-limit = at-start.before in
     let s = at-limit.before.before.before in
-    on-refused (col s) s.args.filter s.requires s.args.out-1.now at-limit.limit_of-up.result at-start.stands_at-start.result at-stop.stands_at-stop.result at-pass.pass-over.result
+    on-refused (col s) s.args.filter s.requires s.args.out.now at-limit.limit_of-up.result at-start.stands_at-start.result at-stop.stands_at-stop.result at-pass.pass-over.result
     at-limit.limit_of-up.ensures at-start.stands_at-start.ensures at-pass.pass-over.ensures at-stop.stands_at-stop.ensures
     (tally_of at-run.next_run-ran.result) at-run.next_run-ran.ensures.0 (number_of at-counted.in-Refused.why) (ap says_counted at-counted.in-Refused.is)
 
@@ -97,10 +97,10 @@ returns-3 c =
     let s = at-limit.before.before.before in
     let n = at-counted.in-Values.values in (
       ap (λ (g : Filter). record { filter = g; said = Gives n }) c.moved_on-in-Values.ensures
-          ∙ on-full (col s) s.args.filter s.requires s.args.out-1.now at-limit.limit_of-up.result at-start.stands_at-start.result at-stop.stands_at-stop.result at-pass.pass-over.result
+          ∙ on-full (col s) s.args.filter s.requires s.args.out.now at-limit.limit_of-up.result at-start.stands_at-start.result at-stop.stands_at-stop.result at-pass.pass-over.result
           at-limit.limit_of-up.ensures at-start.stands_at-start.ensures at-pass.pass-over.ensures at-stop.stands_at-stop.ensures
           (tally_of at-run.next_run-ran.result) at-run.next_run-ran.ensures.0 n (ap says_counted at-counted.in-Values.is) c.before.if-values-places.false,
-      on_out (col s) s.args.filter s.requires s.args.out-1.now at-limit.limit_of-up.result at-start.stands_at-start.result at-stop.stands_at-stop.result at-pass.pass-over.result
+      on_out (col s) s.args.filter s.requires s.args.out.now at-limit.limit_of-up.result at-start.stands_at-start.result at-stop.stands_at-stop.result at-pass.pass-over.result
           at-limit.limit_of-up.ensures at-start.stands_at-start.ensures at-pass.pass-over.ensures at-stop.stands_at-stop.ensures _ at-run.next_run-ran.ensures.1,
     )
 

@@ -10,7 +10,7 @@ pub returns-then-count-gt524288 : goal.returns-then-count-gt524288
 returns-then-count-gt524288 c =
     let s = c.before.before.before in
     record {
-  result_value = import-count s.args.bytes.now s.args.count (length s.args.starts-1.now) (length s.args.ends-1.now) (length s.args.steps-1.now) c.if-count-gt524288.true;
+  result_value = import-count s.args.bytes.now s.args.count (length s.args.starts.now) (length s.args.ends.now) (length s.args.steps.now) c.if-count-gt524288.true;
   leaves = refl;
   leaves_2 = refl;
   leaves_3 = refl;
@@ -21,7 +21,7 @@ returns-then-bytes-records c =
     let e = c.before in
     let s = e.before.before.before in
     record {
-  result_value = import-cut s.args.bytes.now s.args.count (length s.args.starts-1.now) (length s.args.ends-1.now) (length s.args.steps-1.now) e.if-count-gt524288.false c.if-bytes-records.true;
+  result_value = import-cut s.args.bytes.now s.args.count (length s.args.starts.now) (length s.args.ends.now) (length s.args.steps.now) e.if-count-gt524288.false c.if-bytes-records.true;
   leaves = refl;
   leaves_2 = refl;
   leaves_3 = refl;

@@ -21,13 +21,13 @@ abbrev values : tie.Start → List ℤ
 values s = present_in s.args.bytes.now s.args.count
 
 abbrev starts : tie.Start → ℕ
-starts s = length s.args.starts-1.now
+starts s = length s.args.starts.now
 
 abbrev ends : tie.Start → ℕ
-ends s = length s.args.ends-1.now
+ends s = length s.args.ends.now
 
 abbrev steps : tie.Start → ℕ
-steps s = length s.args.steps-1.now
+steps s = length s.args.steps.now
 
 abbrev begin : tie.After-slice_known-1 → tie.Start
 begin c = c.before.before
@@ -109,7 +109,7 @@ returns-5 : tie.Need-returns-then-n-eq0
 returns-5 c =
     let e = c.before in
     let h = sym c.if-n-eq0.true ∙ is-count e in
-    (accepted e 0 (none-counted (s e).args.bytes.now (s e).args.count h), (starts-stay (values (s e)) h (s e).args.starts-1.now, (ends_stay (values (s e)) h (s e).args.ends-1.now, steps-stay (values (s e)) h (s e).args.steps-1.now)))
+    (accepted e 0 (none-counted (s e).args.bytes.now (s e).args.count h), (starts-stay (values (s e)) h (s e).args.starts.now, (ends_stay (values (s e)) h (s e).args.ends.now, steps-stay (values (s e)) h (s e).args.steps.now)))
 
 abbrev all : tie.After-write_runs-arg-1 → tie.Else-steps-n
 all c = c.before.before
@@ -148,8 +148,8 @@ returns-6 c =
     let l3 : length col.steps-1 ≤ steps (s e) = omega (arith, length-map (runs_of (values (s e))) (λ (r : Run). r.step), m, e.if-steps-n.false) in (
       accepted e c.count_present-ones.result c.count_present-ones.ensures,
       (
-        w.write_runs.ensures.0 ∙ filled col.starts-1 (s e).args.starts-1.now l1,
-        (w.write_runs.ensures.1.0 ∙ filled col.ends-1 (s e).args.ends-1.now l2, w.write_runs.ensures.1.1 ∙ filled col.steps-1 (s e).args.steps-1.now l3),
+        w.write_runs.ensures.0 ∙ filled col.starts-1 (s e).args.starts.now l1,
+        (w.write_runs.ensures.1.0 ∙ filled col.ends-1 (s e).args.ends.now l2, w.write_runs.ensures.1.1 ∙ filled col.steps-1 (s e).args.steps.now l3),
       ),
     )
 

@@ -17,7 +17,7 @@ returns-then-flags-numbers c =
     let s = at-then.before.before.before in
     let col = column_now s.args.starts s.args.ends s.args.steps in record {
   result_value = c.no_room.ensures;
-  leaves = unwritten (source_of col) s.args.numbers.now (length s.args.flags-1.now) c.if-flags-numbers.true _ c.no_room.ensures (flags_of (sequence_of col) s.args.numbers.now) s.args.flags-1.now;
+  leaves = unwritten (source_of col) s.args.numbers.now (length s.args.flags.now) c.if-flags-numbers.true _ c.no_room.ensures (flags_of (sequence_of col) s.args.numbers.now) s.args.flags.now;
 }
 
 pub carried_all-requires : goal.carried_all-requires
@@ -30,7 +30,7 @@ shape_of-flags c =
     let s = at-else.before.before.before in
     let q = sequence_of (column_now s.args.starts s.args.ends s.args.steps) in
     ap length r.carried_all.ensures.leaves
-    ∙ as_long (says_checked r.carried_all.result) (flags_of q s.args.numbers.now) s.args.flags-1.now (rw (length-map s.args.numbers.now (flag_of q)) (omega (arith, at-else.if-flags-numbers.false)))
+    ∙ as_long (says_checked r.carried_all.result) (flags_of q s.args.numbers.now) s.args.flags.now (rw (length-map s.args.numbers.now (flag_of q)) (omega (arith, at-else.if-flags-numbers.false)))
 
 pub returns : goal.returns
 returns c = c.carried_all.ensures

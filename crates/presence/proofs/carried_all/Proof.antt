@@ -30,13 +30,13 @@ module _ (s : tie.Start invariant-loop decreases-loop) where
   ks = s.args.numbers.now
 
   abbrev old : List ℕ
-  old = s.args.flags-1.now
+  old = s.args.flags.now
 
 abbrev start : tie.At-loop-why invariant-loop decreases-loop → tie.Start invariant-loop decreases-loop
 start l = l.before.before.before
 
-long : (l : tie.At-loop-why invariant-loop decreases-loop) → length l.loop-why.flags-1 ≡ length (old (start l))
-long l = let s = start l in done-long (p s) (ks s) (old s) s.pre l.loop-why.i l.loop-why.flags-1 l.loop-why.invariant
+long : (l : tie.At-loop-why invariant-loop decreases-loop) → length l.loop-why.flags ≡ length (old (start l))
+long l = let s = start l in done-long (p s) (ks s) (old s) s.pre l.loop-why.i l.loop-why.flags l.loop-why.invariant
 
 loop-holds : tie.Need-loop-why-init invariant-loop decreases-loop
 loop-holds c = let s = c.before.before in done-start (p s) (ks s) (old s) s.requires
@@ -47,13 +47,11 @@ mul-stretch c = search rules
 sub-stretch : tie.Need-slice_bounds-stretch-count invariant-loop decreases-loop
 sub-stretch c = omega (arith, c.loop-why.invariant.inside)
 
--- LEFT: no such goal: slice-bounds-stretch-start
--- part-stretch-start : tie.Need-slice-bounds-stretch-start invariant-loop decreases-loop
--- part-stretch-start c = omega (arith, c.loop.invariant.inside)
+part-stretch-start : tie.Need-slice_bounds-stretch-start invariant-loop decreases-loop
+part-stretch-start c = omega (arith, c.loop-why.invariant.inside)
 
--- LEFT: no such goal: slice-bounds-stretch-end
--- part-stretch-end : tie.Need-slice-bounds-stretch-end invariant-loop decreases-loop
--- part-stretch-end c = search rules
+part-stretch-end : tie.Need-slice_bounds-stretch-end invariant-loop decreases-loop
+part-stretch-end c = search rules
 
 stretch-requires : tie.Need-stretch-n-requires invariant-loop decreases-loop
 stretch-requires c κs = search rules
@@ -70,10 +68,10 @@ module _ (c : tie.After-stretch-n invariant-loop decreases-loop) where
   n = c.stretch-n.result
 
   under : l.loop-why.i + n ≤ length (ks s)
-  under = below (p s) (ks s) (old s) s.pre l.loop-why.i l.loop-why.flags-1 l.loop-why.invariant n c.stretch-n.ensures
+  under = below (p s) (ks s) (old s) s.pre l.loop-why.i l.loop-why.flags l.loop-why.invariant n c.stretch-n.ensures
 
 add-carried-in : tie.Need-overflow_add-i invariant-loop decreases-loop
-add-carried-in c = omega (arith, under c, (s c).well-formed)
+add-carried-in c = omega (arith, under c, (s c).well_formed)
 
 mul-carried-in : tie.Need-offset_bounds-numbers-i-in-loop-why invariant-loop decreases-loop
 mul-carried-in c = search rules
@@ -81,30 +79,26 @@ mul-carried-in c = search rules
 sub-carried-in : tie.Need-slice_bounds-carried_in-count invariant-loop decreases-loop
 sub-carried-in c = search rules
 
--- LEFT: no such goal: slice-bounds-carried-in-start
--- part-carried-in-start : tie.Need-slice-bounds-carried-in-start invariant-loop decreases-loop
--- part-carried-in-start c = search rules
+part-carried-in-start : tie.Need-slice_bounds-carried_in-start invariant-loop decreases-loop
+part-carried-in-start c = search rules
 
--- LEFT: no such goal: slice-bounds-carried-in-end
--- part-carried-in-end : tie.Need-slice-bounds-carried-in-end invariant-loop decreases-loop
--- part-carried-in-end c = omega (arith, under c)
+part-carried-in-end : tie.Need-slice_bounds-carried_in-end invariant-loop decreases-loop
+part-carried-in-end c = omega (arith, under c)
 
 sub-carried-in-2 : tie.Need-slice_bounds-carried_in-count-in-loop-why invariant-loop decreases-loop
 sub-carried-in-2 c = let st = c.before in omega (arith, (l st).loop-why.invariant.inside, long (l st), (s st).requires)
 
--- LEFT: no such goal: slice-bounds-carried-in-start-2
--- part-carried-in-start-2 : tie.Need-slice-bounds-carried-in-start-2 invariant-loop decreases-loop
--- part-carried-in-start-2 c = let st = c.before in omega (arith, (l st).loop.invariant.inside, long (l st), (s st).requires)
+part-carried-in-start-2 : tie.Need-slice_bounds-carried_in-start-in-loop-why invariant-loop decreases-loop
+part-carried-in-start-2 c = let st = c.before in omega (arith, (l st).loop-why.invariant.inside, long (l st), (s st).requires)
 
--- LEFT: no such goal: slice-bounds-carried-in-end-2
--- part-carried-in-end-2 : tie.Need-slice-bounds-carried-in-end-2 invariant-loop decreases-loop
--- part-carried-in-end-2 c = search rules
+part-carried-in-end-2 : tie.Need-slice_bounds-carried_in-end-in-loop-why invariant-loop decreases-loop
+part-carried-in-end-2 c = search rules
 
 carried-in-requires : tie.Need-carried_in-part-requires invariant-loop decreases-loop
 carried-in-requires c κs =
     let st = c.before.before in
     let e = st.stretch-n.ensures in
-    let o = offered (p (s st)) (ks (s st)) (old (s st)) (s st).requires (l st).loop-why.i (l st).loop-why.flags-1 (l st).loop-why.invariant (n st) e in
+    let o = offered (p (s st)) (ks (s st)) (old (s st)) (s st).requires (l st).loop-why.i (l st).loop-why.flags (l st).loop-why.invariant (n st) e in
     ((o.0, o.1), o.2)
 
 enum-known-part : tie.Need-enum_known-part invariant-loop decreases-loop
@@ -123,8 +117,8 @@ module _ (c : tie.After-carried_in-part invariant-loop decreases-loop) where
   abbrev says : Said Word
   says = says_checked c.carried_in-part.result
 
-  turned : Turn (p s') (ks s') (old s') (l st).loop-why.i (l st).loop-why.flags-1 (n st) c.carried_in-part.new.1.1.1.1.0 says
-  turned = turn (p s') (ks s') (old s') s'.pre (l st).loop-why.i (l st).loop-why.flags-1 (l st).loop-why.invariant (n st) st.stretch-n.ensures _ says c.carried_in-part.ensures.0 c.carried_in-part.ensures.1
+  turned : Turn (p s') (ks s') (old s') (l st).loop-why.i (l st).loop-why.flags (n st) c.carried_in-part.new.1.1.1.1.0 says
+  turned = turn (p s') (ks s') (old s') s'.pre (l st).loop-why.i (l st).loop-why.flags (l st).loop-why.invariant (n st) st.stretch-n.ensures _ says c.carried_in-part.ensures.0 c.carried_in-part.ensures.1
 
 same_length : tie.Need-shape_of-flags-in-Refused invariant-loop decreases-loop
 same_length c =
@@ -172,23 +166,5 @@ loop-less c =
 loop-again : tie.Need-loop-why-preserved invariant-loop decreases-loop
 loop-again c = let t = c.before in (turned (ran t)).done (fine-said t)
 
-slice_bounds-stretch-start : tie.Need-slice_bounds-stretch-start invariant-loop decreases-loop
-slice_bounds-stretch-start c = search rules
-
-slice_bounds-stretch-end : tie.Need-slice_bounds-stretch-end invariant-loop decreases-loop
-slice_bounds-stretch-end c = search rules
-
-slice_bounds-carried_in-start : tie.Need-slice_bounds-carried_in-start invariant-loop decreases-loop
-slice_bounds-carried_in-start c = search rules
-
-slice_bounds-carried_in-end : tie.Need-slice_bounds-carried_in-end invariant-loop decreases-loop
-slice_bounds-carried_in-end c = search rules
-
-slice_bounds-carried_in-start-in-loop-why : tie.Need-slice_bounds-carried_in-start-in-loop-why invariant-loop decreases-loop
-slice_bounds-carried_in-start-in-loop-why c = search rules
-
-slice_bounds-carried_in-end-in-loop-why : tie.Need-slice_bounds-carried_in-end-in-loop-why invariant-loop decreases-loop
-slice_bounds-carried_in-end-in-loop-why c = search rules
-
 pub carried_all_spec : {M : Type 1} → statement M
-carried_all_spec = tie.close (tie.spec invariant-loop decreases-loop loop-holds mul-stretch sub-stretch slice_bounds-stretch-start slice_bounds-stretch-end stretch-requires add-carried-in mul-carried-in sub-carried-in slice_bounds-carried_in-start slice_bounds-carried_in-end sub-carried-in-2 slice_bounds-carried_in-start-in-loop-why slice_bounds-carried_in-end-in-loop-why carried-in-requires enum-known-part same_length returns enum_told add-i same-length-2 returns-2 loop-less loop-again)
+carried_all_spec = tie.close (tie.spec invariant-loop decreases-loop loop-holds mul-stretch sub-stretch part-stretch-start part-stretch-end stretch-requires add-carried-in mul-carried-in sub-carried-in part-carried-in-start part-carried-in-end sub-carried-in-2 part-carried-in-start-2 part-carried-in-end-2 carried-in-requires enum-known-part same_length returns enum_told add-i same-length-2 returns-2 loop-less loop-again)

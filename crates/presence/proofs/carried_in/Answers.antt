@@ -29,7 +29,7 @@ module _ (c : After-seek_run-ran) where
   abbrev p : Source
   p = source_of (column_now s.args.starts s.args.ends s.args.steps)
 
-  says : said_of (says_counted c.seek_run-ran.result.counted-1) ≡ carried_of p s.args.numbers.now (length s.args.flags-1.now)
+  says : said_of (says_counted c.seek_run-ran.result.counted) ≡ carried_of p s.args.numbers.now (length s.args.flags.now)
   says =
       ap (λ (t : Tally). said_of t.said) c.seek_run-ran.ensures.result_value
       ∙ run-says p s.args.numbers.now _ _ _ c.whole-scan.ensures (omega (arith, s.pre.0.0, slice-aggregate-seek-run c.before)) s.pre.0.1
@@ -71,7 +71,7 @@ module _ (c : After-mark) where
   ks = (s at-run).args.numbers.now
 
   abbrev flags : List ℕ
-  flags = (s at-run).args.flags-1.now
+  flags = (s at-run).args.flags.now
 
   wrote : c.mark.new.1.1.1.0 ≡ after (Gives fine) (flags_of (p at-run).sequence ks) flags
   wrote =

@@ -21,11 +21,11 @@ module _ (c : After-seek-moved) where
   abbrev p : Source
   p = source_of (column_now s.args.starts s.args.ends s.args.steps)
 
-  stood : (t : State) → c.seek-moved.result.scan.state-1 ≡ t → Gives (index_in t) ≡ Gives (sought_at p s.args.number)
+  stood : (t : State) → c.seek-moved.result.scan.state ≡ t → Gives (index_in t) ≡ Gives (sought_at p s.args.number)
   stood t e =
       ap (λ (u : State). Gives (index_in u)) (sym e)
-      ∙ ap (λ (o : Outcome). Gives (index_in o.scan.state-1)) (rw (to_z-of_z s.ranges.number) at c.seek-moved.ensures)
-      ∙ ap (λ (w : Scan). Gives (index_in (seek_of p s.args.number w).scan.state-1)) c.whole-scan.ensures
+      ∙ ap (λ (o : Outcome). Gives (index_in o.scan.state)) (rw (to_z-of_z s.ranges.number) at c.seek-moved.ensures)
+      ∙ ap (λ (w : Scan). Gives (index_in (seek_of p s.args.number w).scan.state)) c.whole-scan.ensures
 
 pub returns-in-At : goal.returns-in-At
 returns-in-At c =

@@ -35,7 +35,7 @@ returns-in-Refused c =
     let w = c.before in
     let k = w.before.before in
     record {
-  result_value = listed-refused (st k).args.profile (st k).args.count (source_of (col k)) (st k).args.end (length (st k).args.out-1.now) (list k) k.check_profile.result k.check_profile.ensures _ w.in-Refused.is;
+  result_value = listed-refused (st k).args.profile (st k).args.count (source_of (col k)) (st k).args.end (length (st k).args.out.now) (list k) k.check_profile.result k.check_profile.ensures _ w.in-Refused.is;
   leaves = refl;
 }
 
@@ -45,7 +45,7 @@ returns-in-Fine c =
     let t = l.before.before in
     let k = t.before.before in
     let e = carrying-is (st k).args.profile (sequence_of (col k)) in record {
-  result_value = listed-behind (st k).args.profile (st k).args.count (source_of (col k)) (st k).args.end (length (st k).args.out-1.now) (list k) k.check_profile.result k.check_profile.ensures t.in-Fine.is _
-          (l.list.ensures.result_value ∙ ap (λ f. said-by (st k).args.count (st k).args.end (length (st k).args.out-1.now) (numbers_in f (st k).args.start (st k).args.end)) e);
-  leaves = l.list.ensures.leaves ∙ ap (λ f. after (says_listed l.list.result) (numbers_in f (st k).args.start (st k).args.end) (st k).args.out-1.now) e;
+  result_value = listed-behind (st k).args.profile (st k).args.count (source_of (col k)) (st k).args.end (length (st k).args.out.now) (list k) k.check_profile.result k.check_profile.ensures t.in-Fine.is _
+          (l.list.ensures.result_value ∙ ap (λ f. said-by (st k).args.count (st k).args.end (length (st k).args.out.now) (numbers_in f (st k).args.start (st k).args.end)) e);
+  leaves = l.list.ensures.leaves ∙ ap (λ f. after (says_listed l.list.result) (numbers_in f (st k).args.start (st k).args.end) (st k).args.out.now) e;
 }

@@ -20,7 +20,7 @@ module _ (s : Start) where
   listed = numbers_in (sought s.args.here (sequence_of (column_now s.args.starts s.args.ends s.args.steps))) s.args.start s.args.end
 
   abbrev room : ℕ
-  room = length s.args.out-1.now
+  room = length s.args.out.now
 
 pub returns-then-count-end : goal.returns-then-count-end
 returns-then-count-end c = let s = c.before.before.before in record {
@@ -35,7 +35,7 @@ returns-then-end-start c =
     let z : listed s ≡ [] = numbers-empty (sought s.args.here (sequence_of (column_now s.args.starts s.args.ends s.args.steps))) s.args.start s.args.end c.if-end-start.true in
     record {
   result_value = says-listed s.args.count s.args.end (room s) (listed s) 0 e.if-count-end.false (omega (arith, ap length z)) (sym (ap length z));
-  leaves = sym (ap (λ l. l ++ drop (length l) s.args.out-1.now) z);
+  leaves = sym (ap (λ l. l ++ drop (length l) s.args.out.now) z);
 }
 
 pub span_of-span-requires : goal.span_of-span-requires
@@ -89,5 +89,5 @@ returns c =
     let n = e.before in
     let s = st n in record {
   result_value = says-listed s.args.count s.args.end (room s) (listed s) n.count_sought-n.result (low n).if-count-end.false (omega (arith, n.count_sought-n.ensures)) n.count_sought-n.ensures;
-  leaves = left_is (listed s) n.count_sought-n.result _ s.args.out-1.now n.count_sought-n.ensures w.write_sought.ensures;
+  leaves = left_is (listed s) n.count_sought-n.result _ s.args.out.now n.count_sought-n.ensures w.write_sought.ensures;
 }

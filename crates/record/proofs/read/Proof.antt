@@ -21,13 +21,13 @@ abbrev bytes : tie.Start → List ℕ
 bytes s = s.args.bytes.now
 
 abbrev starts : tie.Start → ℕ
-starts s = length s.args.starts-1.now
+starts s = length s.args.starts.now
 
 abbrev ends : tie.Start → ℕ
-ends s = length s.args.ends-1.now
+ends s = length s.args.ends.now
 
 abbrev steps : tie.Start → ℕ
-steps s = length s.args.steps-1.now
+steps s = length s.args.steps.now
 
 -- the head was right: n runs
 opened : (c : tie.In-Runs-2) →
@@ -157,10 +157,10 @@ returns-6 c =
       column-fine (bytes s) (starts s) (ends s) (steps s) k (opened n) e.before.before.if-starts-n.false e.before.if-ends-n.false e.if-steps-n.false
           (sym (ap says_checked t.in-Fine.is) ∙ t.before.before.check_runs.ensures),
       (
-        each-filled (start_in (bytes s)) _ s.args.starts-1.now k (runs_in (bytes s)) is e.before.before.if-starts-n.false r.read_runs.ensures.0,
+        each-filled (start_in (bytes s)) _ s.args.starts.now k (runs_in (bytes s)) is e.before.before.if-starts-n.false r.read_runs.ensures.0,
         (
-          each-filled (λ j. total_in (bytes s) (suc j)) _ s.args.ends-1.now k (runs_in (bytes s)) is e.before.if-ends-n.false r.read_runs.ensures.1.0,
-          each-filled (step_in (bytes s)) _ s.args.steps-1.now k (runs_in (bytes s)) is e.if-steps-n.false r.read_runs.ensures.1.1,
+          each-filled (λ j. total_in (bytes s) (suc j)) _ s.args.ends.now k (runs_in (bytes s)) is e.before.if-ends-n.false r.read_runs.ensures.1.0,
+          each-filled (step_in (bytes s)) _ s.args.steps.now k (runs_in (bytes s)) is e.if-steps-n.false r.read_runs.ensures.1.1,
         ),
       ),
     )

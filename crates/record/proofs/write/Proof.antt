@@ -61,7 +61,7 @@ returns-3 c =
     let e = w.before.before in
     let k = this e.before in (
       write-fine k _ (fine e.before) e.if-out-size.false,
-      w.write_all.ensures ∙ filled (record_of k) (start e.before).args.out-1.now (omega (arith, record-length k, e.if-out-size.false)),
+      w.write_all.ensures ∙ filled (record_of k) (start e.before).args.out.now (omega (arith, record-length k, e.if-out-size.false)),
     )
 
 pub write_spec : {M : Type 1} → statement M

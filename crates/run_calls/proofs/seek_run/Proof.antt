@@ -30,7 +30,7 @@ returns c =
     let at_told = c.before in
     let f = at_told.before.before in
     let s = start f in
-    given-run _ _ _ _ _ _ (given-none (sequence_of (col s)) s.args.scan s.args.targets.now s.args.out-1.now c.if-targets-eq0.true)
+    given-run _ _ _ _ _ _ (given-none (sequence_of (col s)) s.args.scan s.args.targets.now s.args.out.now c.if-targets-eq0.true)
     (seek-run-given (col s) s.args.scan _ (sym (ap says_footed at_told.in-Past.is) ∙ f.find_footing-footed.ensures) _ _)
 
 enum-known-footed-2 : tie.Need-enum_known-footed-in-On-1
@@ -57,7 +57,7 @@ returns-3 c =
     let f = at_told.before.before in
     let s = start f in
     let h = sym (ap says_footed at_told.in-Past.is) ∙ f.find_footing-footed.ensures in
-    given-run _ _ _ _ _ _ (given-ended (sequence_of (col s)) s.args.scan s.args.targets.now s.args.out-1.now _ refl (omega (arith, c.if-targets-eq0.false)) (past_end (col s) s.args.scan h))
+    given-run _ _ _ _ _ _ (given-ended (sequence_of (col s)) s.args.scan s.args.targets.now s.args.out.now _ refl (omega (arith, c.if-targets-eq0.false)) (past_end (col s) s.args.scan h))
     (seek-run-given (col s) s.args.scan _ h _ _)
 
 same_length : tie.Need-shape_of-out

@@ -48,7 +48,7 @@ module _ (c : tie.After-answered-count) where
   known = seeks-answered (seq st) st.args.targets.now st.args.scan _ _ st.pre.1 (stood st).there st.pre.0.rising before
 
 returns : tie.Need-returns-then-targets-eq0
-returns c = let s = c.before.before in given-none (seq s) s.args.scan s.args.targets.now s.args.out-1.now c.if-targets-eq0.true
+returns c = let s = c.before.before in given-none (seq s) s.args.scan s.args.targets.now s.args.out.now c.if-targets-eq0.true
 
 answered-requires : tie.Need-answered-count-requires
 answered-requires c κs = search rules
@@ -57,7 +57,7 @@ returns-2 : tie.Need-returns-then-out-count
 returns-2 c =
     let a = c.before in
     let s = st a in
-    given-room (seq s) s.args.scan s.args.targets.now s.args.out-1.now _ s.pre.1 _ (known a) c.if-out-count.true
+    given-room (seq s) s.args.scan s.args.targets.now s.args.out.now _ s.pre.1 _ (known a) c.if-out-count.true
 
 write-seeks-requires : tie.Need-write_seeks-index-requires
 write-seeks-requires c κs =
@@ -74,7 +74,7 @@ returns-3 c =
     let at-else = w.before.before in
     let a = at-else.before in
     let s = st a in
-    given-cut (seq s) s.args.scan s.args.targets.now s.args.out-1.now _ s.pre.1 _ (known a) _ at-else.if-out-count.false w.write_seeks-index.ensures.1 c.if-count-targets.true
+    given-cut (seq s) s.args.scan s.args.targets.now s.args.out.now _ s.pre.1 _ (known a) _ at-else.if-out-count.false w.write_seeks-index.ensures.1 c.if-count-targets.true
 
 -- all are answered
 some : (c : tie.Else-count-targets) → let w = c.before.before in let a = w.before.before.before in 0 < a.answered-count.result
@@ -102,7 +102,7 @@ returns-4 c =
     let at-else = w.before.before in
     let a = at-else.before in
     let s = st a in
-    given-all (seq s) s.args.scan s.args.targets.now s.args.out-1.now _ s.pre.1 _ (known a) _ at-else.if-out-count.false w.write_seeks-index.ensures.1 _ _ w.write_seeks-index.ensures.0
+    given-all (seq s) s.args.scan s.args.targets.now s.args.out.now _ s.pre.1 _ (known a) _ at-else.if-out-count.false w.write_seeks-index.ensures.1 _ _ w.write_seeks-index.ensures.0
     (back w64 _ c.value-1.given) (omega (arith, (before a).0, e.if-count-targets.false)) (some e)
 
 pub seeks_from_spec : {M : Type 1} → statement M

@@ -46,14 +46,14 @@ module _ (c : tie.At-loop-k invariant-loop decreases-loop) where
   abbrev start : tie.Start invariant-loop decreases-loop
   start = c.before.before.before
 
-  entered : Entered (col start) start.args.end start.args.footing.index c.loop-k.run c.loop-k.index (to_z w64 c.loop-k.base-1)
+  entered : Entered (col start) start.args.end start.args.footing.index c.loop-k.run c.loop-k.index (to_z w64 c.loop-k.base)
   entered = c.loop-k.invariant.entered
 
   here : c.loop-k.run < length start.args.ends.now
   here = held (col start) (whole start) start.args.end start.args.footing.index start.pre.0.fit start.pre.0.rising entered
 
-  long : length c.loop-k.out-1 ≡ length start.args.out-1.now
-  long = seeking-long (col start) (whole start) start.args.end start.args.footing.index start.pre.0.fit start.pre.0.rising start.args.targets.now start.args.out-1.now start.args.count start.pre.1.0.0 start.pre.1.0.1 c.loop-k.invariant
+  long : length c.loop-k.out ≡ length start.args.out.now
+  long = seeking-long (col start) (whole start) start.args.end start.args.footing.index start.pre.0.fit start.pre.0.rising start.args.targets.now start.args.out.now start.args.count start.pre.1.0.0 start.pre.1.0.1 c.loop-k.invariant
 
 -- ---- the needs
 
@@ -62,7 +62,7 @@ loop-holds : tie.Need-loop-k-init invariant-loop decreases-loop
 loop-holds c =
     let s = c.before.before in
     let v = s.args.footing.value in
-    seeking-start (col s) (whole s) s.args.end s.args.footing.index s.requires.0.fit s.requires.0.rising s.args.targets.now s.args.out-1.now s.args.count s.requires.1.0.0 s.requires.1.0.1 _ _
+    seeking-start (col s) (whole s) s.args.end s.args.footing.index s.requires.0.fit s.requires.0.rising s.args.targets.now s.args.out.now s.args.count s.requires.1.0.0 s.requires.1.0.1 _ _
     (record {
       above = le_refl _;
       below = (stood s).there;
@@ -106,13 +106,11 @@ mul-run-seeks-2 c = search rules
 sub-run-seeks-2 : tie.Need-slice_bounds-run_seeks-count invariant-loop decreases-loop
 sub-run-seeks-2 c = let l = at-loop c.before in omega (arith, l.loop-k.invariant.few, (start l).pre.1.0.0)
 
--- LEFT: no such goal: slice-bounds-run-seeks-start
--- part-run-seeks-start : tie.Need-slice-bounds-run-seeks-start invariant-loop decreases-loop
--- part-run-seeks-start c = let l = at-loop c.before in omega (arith, l.loop.inv.few, (start l).pre.1.0.0)
+part-run-seeks-start : tie.Need-slice_bounds-run_seeks-start invariant-loop decreases-loop
+part-run-seeks-start c = let l = at-loop c.before in omega (arith, l.loop-k.invariant.few, (start l).pre.1.0.0)
 
--- LEFT: no such goal: slice-bounds-run-seeks-end
--- part-run-seeks-end : tie.Need-slice-bounds-run-seeks-end invariant-loop decreases-loop
--- part-run-seeks-end c = search rules
+part-run-seeks-end : tie.Need-slice_bounds-run_seeks-end invariant-loop decreases-loop
+part-run-seeks-end c = search rules
 
 sub-run-seeks-3 : tie.Need-overflow_sub-count invariant-loop decreases-loop
 sub-run-seeks-3 c = let l = at-loop c.before.before in omega (arith, l.loop-k.invariant.few)
@@ -123,13 +121,11 @@ mul-run-seeks-3 c = search rules
 sub-run-seeks-4 : tie.Need-slice_bounds-run_seeks-count-in-loop-k invariant-loop decreases-loop
 sub-run-seeks-4 c = let l = at-loop c.before.before in omega (arith, l.loop-k.invariant.few, long l, (start l).pre.1.0.1)
 
--- LEFT: no such goal: slice-bounds-run-seeks-start-2
--- part-run-seeks-start-2 : tie.Need-slice-bounds-run-seeks-start-2 invariant-loop decreases-loop
--- part-run-seeks-start-2 c = let l = at-loop c.before.before in omega (arith, l.loop.inv.few, long l, (start l).pre.1.0.1)
+part-run-seeks-start-2 : tie.Need-slice_bounds-run_seeks-start-in-loop-k invariant-loop decreases-loop
+part-run-seeks-start-2 c = let l = at-loop c.before.before in omega (arith, l.loop-k.invariant.few, long l, (start l).pre.1.0.1)
 
--- LEFT: no such goal: slice-bounds-run-seeks-end-2
--- part-run-seeks-end-2 : tie.Need-slice-bounds-run-seeks-end-2 invariant-loop decreases-loop
--- part-run-seeks-end-2 c = search rules
+part-run-seeks-end-2 : tie.Need-slice_bounds-run_seeks-end-in-loop-k invariant-loop decreases-loop
+part-run-seeks-end-2 c = search rules
 
 -- the step that is read
 of-step : (c : tie.After-run_seeks-arg-1 invariant-loop decreases-loop) → let v = step_of (col (from c.before)) (at-loop c.before).loop-k.run in to_z w16 (of_z w16 v) ≡ v
@@ -143,7 +139,7 @@ run-seeks-requires c κs =
     let s = start l in
     let few = l.loop-k.invariant.few in (
       rw (of-step at_arg) (strip (col s) (whole s) s.args.end s.args.footing.index s.pre.0.fit s.pre.0.rising (entered l) _ at-smaller.smaller-upto.ensures),
-      (rest-long s.args.targets.now l.loop-k.k _ (omega (arith, few, s.pre.1.0.0)), rest-long l.loop-k.out-1 l.loop-k.k _ (omega (arith, few, long l, s.pre.1.0.1))),
+      (rest-long s.args.targets.now l.loop-k.k _ (omega (arith, few, s.pre.1.0.0)), rest-long l.loop-k.out l.loop-k.k _ (omega (arith, few, long l, s.pre.1.0.1))),
     )
 
 -- what the run's seeks come to
@@ -162,9 +158,9 @@ module _ (c : tie.After-run_seeks-sought invariant-loop decreases-loop) where
   abbrev rest : List ℤ
   rest = take (length s.args.targets.now - in-turn.loop-k.k) (drop in-turn.loop-k.k s.args.targets.now)
 
-  turned : Turn (col s) s.args.end s.args.footing.index s.args.targets.now s.args.out-1.now s.args.count in-turn.loop-k.run in-turn.loop-k.index
-      (to_z w64 in-turn.loop-k.base-1) in-turn.loop-k.k in-turn.loop-k.out-1 at_arg.before.smaller-upto.result rest c.run_seeks-sought.result.made c.run_seeks-sought.result.at
-  turned = turn (col s) (whole s) s.args.end s.args.footing.index s.pre.0.fit s.pre.0.rising s.args.targets.now s.args.out-1.now s.args.count
+  turned : Turn (col s) s.args.end s.args.footing.index s.args.targets.now s.args.out.now s.args.count in-turn.loop-k.run in-turn.loop-k.index
+      (to_z w64 in-turn.loop-k.base) in-turn.loop-k.k in-turn.loop-k.out at_arg.before.smaller-upto.result rest c.run_seeks-sought.result.made c.run_seeks-sought.result.at
+  turned = turn (col s) (whole s) s.args.end s.args.footing.index s.pre.0.fit s.pre.0.rising s.args.targets.now s.args.out.now s.args.count
       s.pre.1.0.0 s.pre.1.0.1 in-turn.loop-k.invariant at_arg.before.smaller-upto.result at_arg.before.smaller-upto.ensures rest (rest-is s.args.targets.now in-turn.loop-k.k) _ _
       (rw (of-step at_arg) at c.run_seeks-sought.ensures.0) (rw (of-step at_arg) at c.run_seeks-sought.ensures.1.0)
 
@@ -219,7 +215,7 @@ module _ (c : tie.After-walk-run invariant-loop decreases-loop) where
   of-x : to_z w64 (of_z w64 x) ≡ x
   of-x = back w64 x c.before.walk-arg-1.given
 
-  went : let r = at-run at-else in Onward (col (s r)) (s r).args.end (s r).args.footing.index (s r).args.targets.now (s r).args.out-1.now (s r).args.count
+  went : let r = at-run at-else in Onward (col (s r)) (s r).args.end (s r).args.footing.index (s r).args.targets.now (s r).args.out.now (s r).args.count
       (in-turn r).loop-k.run (k at-else) (s r).args.footing.last x c.walk-run.result
   went = (turned (at-run at-else)).onward (less at-else) _ (stood (s (at-run at-else))).last-is x refl (near at-else) _ (rw of-x at c.walk-run.ensures)
 
@@ -263,17 +259,5 @@ returns c =
     let r = at-then.before.before.before in
     (turned r).done _ ((turned r).wrote _ (rw (of-step (at_arg r)) at r.run_seeks-sought.ensures.1.1)) at-then.if-k-count.true
 
-slice_bounds-run_seeks-start : tie.Need-slice_bounds-run_seeks-start invariant-loop decreases-loop
-slice_bounds-run_seeks-start c = search rules
-
-slice_bounds-run_seeks-end : tie.Need-slice_bounds-run_seeks-end invariant-loop decreases-loop
-slice_bounds-run_seeks-end c = search rules
-
-slice_bounds-run_seeks-start-in-loop-k : tie.Need-slice_bounds-run_seeks-start-in-loop-k invariant-loop decreases-loop
-slice_bounds-run_seeks-start-in-loop-k c = search rules
-
-slice_bounds-run_seeks-end-in-loop-k : tie.Need-slice_bounds-run_seeks-end-in-loop-k invariant-loop decreases-loop
-slice_bounds-run_seeks-end-in-loop-k c = search rules
-
 pub write_seeks_spec : {M : Type 1} → statement M
-write_seeks_spec = tie.close (tie.spec invariant-loop decreases-loop loop-holds mul-smaller shared-slice-read-smaller smaller-requires mul-run-seeks shared-slice-copy-out-run-seeks sub-run-seeks mul-run-seeks-2 sub-run-seeks-2 slice_bounds-run_seeks-start slice_bounds-run_seeks-end sub-run-seeks-3 mul-run-seeks-3 sub-run-seeks-4 slice_bounds-run_seeks-start-in-loop-k slice_bounds-run_seeks-end-in-loop-k run-seeks-requires add-k add-found mul-walk shared-slice-copy-out-walk add-walk walk-requires sub-index mul-index shared-slice-read-index mul-base shared-slice-copy-out-base loop-less loop-again same_length returns)
+write_seeks_spec = tie.close (tie.spec invariant-loop decreases-loop loop-holds mul-smaller shared-slice-read-smaller smaller-requires mul-run-seeks shared-slice-copy-out-run-seeks sub-run-seeks mul-run-seeks-2 sub-run-seeks-2 part-run-seeks-start part-run-seeks-end sub-run-seeks-3 mul-run-seeks-3 sub-run-seeks-4 part-run-seeks-start-2 part-run-seeks-end-2 run-seeks-requires add-k add-found mul-walk shared-slice-copy-out-walk add-walk walk-requires sub-index mul-index shared-slice-read-index mul-base shared-slice-copy-out-base loop-less loop-again same_length returns)

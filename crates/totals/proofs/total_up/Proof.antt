@@ -89,7 +89,7 @@ tried c =
     measured e.before.before
 
 abbrev rooms_of : tie.Start → List ℕ
-rooms_of s = length s.args.counts-1.now ∷ length s.args.leasts-1.now ∷ length s.args.greatests-1.now ∷ length s.args.highs-1.now ∷ length s.args.lows-1.now ∷ []
+rooms_of s = length s.args.counts.now ∷ length s.args.leasts.now ∷ length s.args.greatests.now ∷ length s.args.highs.now ∷ length s.args.lows.now ∷ []
 
 short-told : (c : tie.After-is_short) → let m = measured c.before.before.before in c.is_short.result ≡ short (length (start m).args.from.now) (rooms_of (start m))
 short-told c =
@@ -97,7 +97,7 @@ short-told c =
     c.is_short.ensures ∙ ap (λ n. short n (rooms_of (start m))) (n-long m)
 
 rooms : (c : tie.Else-is_short) → let s = start (tried c) in let n = length s.args.from.now in
-    (n ≤ length s.args.counts-1.now) × (n ≤ length s.args.leasts-1.now) × (n ≤ length s.args.greatests-1.now) × (n ≤ length s.args.highs-1.now) × (n ≤ length s.args.lows-1.now)
+    (n ≤ length s.args.counts.now) × (n ≤ length s.args.leasts.now) × (n ≤ length s.args.greatests.now) × (n ≤ length s.args.highs.now) × (n ≤ length s.args.lows.now)
 rooms c = none-short _ _ _ _ _ _ (sym (short-told c.before) ∙ c.if-is_short.false)
 
 -- before the write
@@ -220,9 +220,9 @@ returns-3 c = let k4 = c.before in
       (
         counts-left (seq m) s.args.from.now s.args.to.now s.args.numbers.now n _ _ w.write_all.ensures.0,
         (
-          held-left (seq m) s.args.from.now s.args.to.now s.args.numbers.now n _ (λ k held. least_or held (edges_at m k)) _ _ (there m (least-there m)) m.measure-all.ensures.1.0 (named-least (seq m) s.args.from.now s.args.to.now s.args.numbers.now n f) _ s.args.leasts-1.now w.write_all.ensures.1.0,
+          held-left (seq m) s.args.from.now s.args.to.now s.args.numbers.now n _ (λ k held. least_or held (edges_at m k)) _ _ (there m (least-there m)) m.measure-all.ensures.1.0 (named-least (seq m) s.args.from.now s.args.to.now s.args.numbers.now n f) _ s.args.leasts.now w.write_all.ensures.1.0,
           (
-            held-left (seq m) s.args.from.now s.args.to.now s.args.numbers.now n _ (λ k held. greatest_or held (edges_at m k)) _ _ (there m (greatest-there m)) m.measure-all.ensures.1.1.0 (named-greatest (seq m) s.args.from.now s.args.to.now s.args.numbers.now n f) _ s.args.greatests-1.now w.write_all.ensures.1.1.0,
+            held-left (seq m) s.args.from.now s.args.to.now s.args.numbers.now n _ (λ k held. greatest_or held (edges_at m k)) _ _ (there m (greatest-there m)) m.measure-all.ensures.1.1.0 (named-greatest (seq m) s.args.from.now s.args.to.now s.args.numbers.now n f) _ s.args.greatests.now w.write_all.ensures.1.1.0,
             (
               values-left (seq m) s.args.from.now s.args.to.now s.args.numbers.now n _ _ _ (there m (high-there m)) m.measure-all.ensures.1.1.1.0 _ _ w.write_all.ensures.1.1.1.0,
               values-left (seq m) s.args.from.now s.args.to.now s.args.numbers.now n _ _ _ (there m (low-there m)) m.measure-all.ensures.1.1.1.1 _ _ w.write_all.ensures.1.1.1.1,

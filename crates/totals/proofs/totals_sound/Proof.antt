@@ -36,7 +36,7 @@ module _ (s : tie.Start) where
   es = s.args.to.now
 
   abbrev rooms : List ℕ
-  rooms = length s.args.counts-1.now ∷ length s.args.leasts-1.now ∷ length s.args.greatests-1.now ∷ length s.args.highs-1.now ∷ length s.args.lows-1.now ∷ []
+  rooms = length s.args.counts.now ∷ length s.args.leasts.now ∷ length s.args.greatests.now ∷ length s.args.highs.now ∷ length s.args.lows.now ∷ []
 
 -- the counts' array has a place a window
 room : (c : tie.After-count_all) → let e = c.before.before.before in let s = start e.before.before in length s.args.from.now ≤ length c.count_all.new.1.1.1.0

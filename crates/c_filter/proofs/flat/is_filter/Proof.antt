@@ -18,7 +18,7 @@ start c =
 moded : (c : tie.Else-not-is_mode) → is_mode (start c.before).args.filter.mode ≡ true
 moded c = sym c.before.is_mode.ensures ∙ not-false c.before.is_mode.result c.if-not-is_mode.false-raw
 
-formed : (c : tie.Else-not-is_scan) → good_scan (start c.before.before.before).args.filter.scan-1 ≡ true
+formed : (c : tie.Else-not-is_scan) → good_scan (start c.before.before.before).args.filter.scan ≡ true
 formed c = sym c.before.is_scan.ensures ∙ not-false c.before.is_scan.result c.if-not-is_scan.false-raw
 
 is-mode-requires : tie.Need-is_mode-requires

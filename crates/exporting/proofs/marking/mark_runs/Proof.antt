@@ -80,7 +80,7 @@ module _ (c : tie.After-size16-step invariant-loop decreases-loop) where
   long-is = ap (λ x. get_or (start (at b)).args.ends.now (at b).loop-r.r 0 - x) (at b).loop-r.invariant.1
 
 loop-holds : tie.Need-loop-r-init invariant-loop decreases-loop
-loop-holds c = let s = c.before.before in (omega arith, before-zero s.args.ends.now {r = 0} refl, carries-none (col s) s.args.bytes-1.now)
+loop-holds c = let s = c.before.before in (omega arith, before-zero s.args.ends.now {r = 0} refl, carries-none (col s) s.args.bytes.now)
 
 mul-end : tie.Need-offset_bounds-ends-r invariant-loop decreases-loop
 mul-end c = search rules
@@ -117,7 +117,7 @@ set-run-requires c κs =
     let z = c.before in
     let a = at (b z) in
     let s = start a in
-    run_room (k (b z)) (good s) s.args.count s.pre.1.0 a.loop-r.bytes-1 a.loop-r.r _ _ _ (turn (b z)).loop-r-test.true (first-is z) (of-step z) (long-is z) s.pre.1.1.0
+    run_room (k (b z)) (good s) s.args.count s.pre.1.0 a.loop-r.bytes a.loop-r.r _ _ _ (turn (b z)).loop-r-test.true (first-is z) (of-step z) (long-is z) s.pre.1.1.0
     (omega (arith, a.loop-r.invariant.2.long)) (small z)
 
 add_r : tie.Need-overflow_add-r invariant-loop decreases-loop

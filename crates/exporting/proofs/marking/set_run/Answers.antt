@@ -10,7 +10,7 @@ pub overflow_add-start : goal.overflow_add-start
 overflow_add-start c = record { fits = omega (arith, one-run c.args.start c.args.step c.args.n 524288 (omega arith) (omega arith)) }
 
 pub set_span-requires : goal.set_span-requires
-set_span-requires c = (omega arith, one-run c.args.start c.args.step c.args.n (8 * length c.args.bytes-1.now) (omega arith) (omega arith))
+set_span-requires c = (omega arith, one-run c.args.start c.args.step c.args.n (8 * length c.args.bytes.now) (omega arith) (omega arith))
 
 pub returns-then-step-eq1 : goal.returns-then-step-eq1
 returns-then-step-eq1 c =

@@ -10,7 +10,7 @@ use Rattle.exporting.proofs.Spans.{span_none, span-byte, span-short, span-long, 
 use Rattle.exporting.proofs.marking.set_span.Goals as goal
 
 pub returns-then-a-e : goal.returns-then-a-e
-returns-then-a-e c = span_none c.args.bytes-1.now c.args.a c.args.e (omega arith)
+returns-then-a-e c = span_none c.args.bytes.now c.args.a c.args.e (omega arith)
 
 pub overflow_cast-from : goal.overflow_cast-from
 overflow_cast-from c = record { fits = omega (arith, mask_lt c.args.a 3) }
@@ -51,7 +51,7 @@ or_at-requires-3 c =
     let up8 = up7.before in
     let up11 = up8.before.before.before in
     let s = up11.before.before in
-    omega (arith, span-room s.args.e (length s.args.bytes-1.now) c.if-below-eq0.false (omega arith), up4.fill_whole.ensures.long, up8.or_at-2.ensures.long)
+    omega (arith, span-room s.args.e (length s.args.bytes.now) c.if-below-eq0.false (omega arith), up4.fill_whole.ensures.long, up8.or_at-2.ensures.long)
 
 pub returns : goal.returns
 returns c =

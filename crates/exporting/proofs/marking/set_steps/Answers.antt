@@ -12,7 +12,7 @@ use Rattle.exporting.proofs.marking.set_steps.Goals as goal
 
 pub loop-k-init : goal.loop-k-init
 unfolding all_for
-loop-k-init c = (omega arith, omega arith, mark-none c.args.bytes-1.now (in_steps c.args.start c.args.step 0) (λ i. refl))
+loop-k-init c = (omega arith, omega arith, mark-none c.args.bytes.now (in_steps c.args.start c.args.step 0) (λ i. refl))
 
 pub set_bit-requires : goal.set_bit-requires
 set_bit-requires c =

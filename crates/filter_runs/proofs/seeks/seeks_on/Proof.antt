@@ -50,7 +50,7 @@ mul-target c =
     let at-start = at-stop.before.before in
     let at-scan = at-start.before.before in
     let s = at-scan.before.before in
-    omega (arith, c.if-made-targets.true, s.well-formed)
+    omega (arith, c.if-made-targets.true, s.well_formed)
 
 shared-slice-copy-out-target : tie.Need-bounds-targets-made
 shared-slice-copy-out-target c = search rules
@@ -79,11 +79,11 @@ returns c =
     let s = at-limit.before.before.before in
     let n = at-counted.in-Values.values in (
       ap (λ (g : Filter). record { filter = g; said = Gives n }) c.moved_on.ensures
-          ∙ seeks-short (col s) s.args.filter s.requires s.args.targets.now s.args.out-1.now at-limit.limit_of-up.result at-start.stands_at-start.result at-stop.stands_at-stop.result at-pass.pass-over.result s.args.filter.scan-1.value
+          ∙ seeks-short (col s) s.args.filter s.requires s.args.targets.now s.args.out.now at-limit.limit_of-up.result at-start.stands_at-start.result at-stop.stands_at-stop.result at-pass.pass-over.result s.args.filter.scan.value
           at-limit.limit_of-up.ensures at-start.stands_at-start.ensures at-pass.pass-over.ensures at-stop.stands_at-stop.ensures refl
           (tally_of at-run.seek_run-ran.result) at-run.seek_run-ran.ensures.0 n (ap says_counted at-counted.in-Values.is) at-then.if-made-targets.true
           _ (back w64 _ at_Target.target-1.given) (outcome_of at-seek.seek-sought.result) at-seek.seek-sought.ensures,
-      seeks-out (col s) s.args.filter s.requires s.args.targets.now s.args.out-1.now at-limit.limit_of-up.result at-start.stands_at-start.result at-stop.stands_at-stop.result at-pass.pass-over.result s.args.filter.scan-1.value
+      seeks-out (col s) s.args.filter s.requires s.args.targets.now s.args.out.now at-limit.limit_of-up.result at-start.stands_at-start.result at-stop.stands_at-stop.result at-pass.pass-over.result s.args.filter.scan.value
           at-limit.limit_of-up.ensures at-start.stands_at-start.ensures at-pass.pass-over.ensures at-stop.stands_at-stop.ensures refl
           (tally_of at-run.seek_run-ran.result) _ at-run.seek_run-ran.ensures.0 at-run.seek_run-ran.ensures.1 _ (ap says_counted at-counted.in-Values.is),
     )
@@ -104,10 +104,10 @@ returns-2 c =
     let at-start = at-pass.before in
     let at-limit = at-start.before in
     let s = at-limit.before.before.before in (
-      seeks-refused (col s) s.args.filter s.requires s.args.targets.now s.args.out-1.now at-limit.limit_of-up.result at-start.stands_at-start.result at-stop.stands_at-stop.result at-pass.pass-over.result s.args.filter.scan-1.value
+      seeks-refused (col s) s.args.filter s.requires s.args.targets.now s.args.out.now at-limit.limit_of-up.result at-start.stands_at-start.result at-stop.stands_at-stop.result at-pass.pass-over.result s.args.filter.scan.value
           at-limit.limit_of-up.ensures at-start.stands_at-start.ensures at-pass.pass-over.ensures at-stop.stands_at-stop.ensures refl
           (tally_of at-run.seek_run-ran.result) at-run.seek_run-ran.ensures.0 (number_of at-counted.in-Refused.why) (ap says_counted at-counted.in-Refused.is),
-      seeks-out (col s) s.args.filter s.requires s.args.targets.now s.args.out-1.now at-limit.limit_of-up.result at-start.stands_at-start.result at-stop.stands_at-stop.result at-pass.pass-over.result s.args.filter.scan-1.value
+      seeks-out (col s) s.args.filter s.requires s.args.targets.now s.args.out.now at-limit.limit_of-up.result at-start.stands_at-start.result at-stop.stands_at-stop.result at-pass.pass-over.result s.args.filter.scan.value
           at-limit.limit_of-up.ensures at-start.stands_at-start.ensures at-pass.pass-over.ensures at-stop.stands_at-stop.ensures refl
           (tally_of at-run.seek_run-ran.result) _ at-run.seek_run-ran.ensures.0 at-run.seek_run-ran.ensures.1 _ (ap says_counted at-counted.in-Refused.is),
     )
@@ -127,10 +127,10 @@ returns-3 c =
     let s = at-limit.before.before.before in
     let n = at-counted.in-Values.values in (
       ap (λ (g : Filter). record { filter = g; said = Gives n }) c.moved_on-in-Values.ensures
-          ∙ seeks-full (col s) s.args.filter s.requires s.args.targets.now s.args.out-1.now at-limit.limit_of-up.result at-start.stands_at-start.result at-stop.stands_at-stop.result at-pass.pass-over.result s.args.filter.scan-1.value
+          ∙ seeks-full (col s) s.args.filter s.requires s.args.targets.now s.args.out.now at-limit.limit_of-up.result at-start.stands_at-start.result at-stop.stands_at-stop.result at-pass.pass-over.result s.args.filter.scan.value
           at-limit.limit_of-up.ensures at-start.stands_at-start.ensures at-pass.pass-over.ensures at-stop.stands_at-stop.ensures refl
           (tally_of at-run.seek_run-ran.result) at-run.seek_run-ran.ensures.0 n (ap says_counted at-counted.in-Values.is) c.before.if-made-targets.false,
-      seeks-out (col s) s.args.filter s.requires s.args.targets.now s.args.out-1.now at-limit.limit_of-up.result at-start.stands_at-start.result at-stop.stands_at-stop.result at-pass.pass-over.result s.args.filter.scan-1.value
+      seeks-out (col s) s.args.filter s.requires s.args.targets.now s.args.out.now at-limit.limit_of-up.result at-start.stands_at-start.result at-stop.stands_at-stop.result at-pass.pass-over.result s.args.filter.scan.value
           at-limit.limit_of-up.ensures at-start.stands_at-start.ensures at-pass.pass-over.ensures at-stop.stands_at-stop.ensures refl
           (tally_of at-run.seek_run-ran.result) _ at-run.seek_run-ran.ensures.0 at-run.seek_run-ran.ensures.1 _ (ap says_counted at-counted.in-Values.is),
     )

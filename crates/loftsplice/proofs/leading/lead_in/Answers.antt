@@ -36,13 +36,13 @@ past-requires c =
 pub returns-in-Stay : goal.returns-in-Stay
 returns-in-Stay c =
     let s = c.before.before.before in
-    lead-stay _ s.args.scan s.args.to-1 c.in-Stay.is
+    lead-stay _ s.args.scan s.args.to c.in-Stay.is
 
 pub returns-in-Go : goal.returns-in-Go
 returns-in-Go c =
     let at-match-keys2 = c.before.before.before in
     let s = at-match-keys2.before.before in
-    lead-go _ s.args.scan s.args.to-1 _ _ c.in-Go.is c.Move-in.ensures
+    lead-go _ s.args.scan s.args.to _ _ c.in-Go.is c.Move-in.ensures
 
 pub returns-in-Past : goal.returns-in-Past
 returns-in-Past c =
@@ -52,5 +52,5 @@ returns-in-Past c =
     let r = at-rest-of.rest_of-rest.ensures in
     let q = sequence_of (column_now s.args.starts s.args.ends s.args.steps) in
     let x = at-to2.in-Past.edge in
-    lead-past q s.args.scan s.args.to-1 _ x _ (back w64 x at-rest-of.known_told-in-Past-1.given.0.1) at-to2.in-Past.is _
+    lead-past q s.args.scan s.args.to _ x _ (back w64 x at-rest-of.known_told-in-Past-1.given.0.1) at-to2.in-Past.is _
     (ap (go_to q s.args.scan) (rw (r.index_value_2.0, r.index_value_2.1) at c.seek_spot-found.ensures.index_value) ∙ seek-goes q s.args.scan _ s.args.scan.state) c.past.ensures

@@ -29,11 +29,11 @@ pub returns-in-Next : goal.returns-in-Next
 returns-in-Next c =
     let shr_slice_at = c.before.before.before in
     let s = shr_slice_at.before in
-    moves_next _ s.args.scan s.args.step-1 _ c.in-Next.is c.next_in.ensures
+    moves_next _ s.args.scan s.args.step _ c.in-Next.is c.next_in.ensures
 
 pub returns-in-Seek : goal.returns-in-Seek
 returns-in-Seek c =
     let at-step = c.before.before.before in
     let s = at-step.before.before.before in
     let x = at-step.in-Seek.target in
-    moves-seek _ s.args.scan s.args.step-1 _ x _ (back w64 x c.known_told-1.given.0.1) at-step.in-Seek.is c.seek_in.ensures
+    moves-seek _ s.args.scan s.args.step _ x _ (back w64 x c.known_told-1.given.0.1) at-step.in-Seek.is c.seek_in.ensures

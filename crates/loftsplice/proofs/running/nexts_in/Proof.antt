@@ -22,7 +22,7 @@ origin c =
     at-else.before.before
 
 returns : tie.Need-returns-then-places-eq0
-returns c = let s = c.before.before in nexts-nowhere (sequence_of (col s)) s.args.scan s.args.out-1.now c.if-places-eq0.true
+returns c = let s = c.before.before in nexts-nowhere (sequence_of (col s)) s.args.scan s.args.out.now c.if-places-eq0.true
 
 ahead-of-requires : tie.Need-ahead_of-first-requires
 ahead-of-requires c κs = λ i e.
@@ -32,7 +32,7 @@ ahead-of-requires c κs = λ i e.
 returns-2 : tie.Need-returns-then-end-first
 returns-2 c =
     let s = origin c.before in
-    nexts-ended (sequence_of (col s)) s.args.scan s.args.out-1.now _ c.before.ahead_of_lem.ensures (omega (arith, c.before.before.if-places-eq0.false)) c.if-end-first.true
+    nexts-ended (sequence_of (col s)) s.args.scan s.args.out.now _ c.before.ahead_of_lem.ensures (omega (arith, c.before.before.if-places-eq0.false)) c.if-end-first.true
 
 sub-left : tie.Need-overflow_sub-left
 sub-left c = search rules
@@ -51,7 +51,7 @@ returns-3 c =
     let w = c.before in
     let e = w.before.before.before in
     let s = origin e.before in
-    nexts-to-end (sequence_of (col s)) s.args.scan s.args.out-1.now _ e.before.ahead_of_lem.ensures (omega (arith, e.before.before.if-places-eq0.false)) _ (omega (arith, e.if-end-first.false)) w.before.before.if-left-places.true w.write_stretch.ensures
+    nexts-to-end (sequence_of (col s)) s.args.scan s.args.out.now _ e.before.ahead_of_lem.ensures (omega (arith, e.before.before.if-places-eq0.false)) _ (omega (arith, e.if-end-first.false)) w.before.before.if-left-places.true w.write_stretch.ensures
 
 add-write-stretch : tie.Need-overflow_add-first
 add-write-stretch c = search rules
@@ -85,7 +85,7 @@ returns-4 c =
     let w = c.before.before in
     let e = w.before.before.before in
     let s = origin e.before in
-    nexts-to-full (sequence_of (col s)) s.args.scan s.args.out-1.now _ e.before.ahead_of_lem.ensures (omega (arith, e.before.before.if-places-eq0.false)) _ _ _ _ _
+    nexts-to-full (sequence_of (col s)) s.args.scan s.args.out.now _ e.before.ahead_of_lem.ensures (omega (arith, e.before.before.if-places-eq0.false)) _ _ _ _ _
     w.before.before.if-left-places.false (omega (arith, e.if-end-first.false)) refl refl w.write_stretch-2.ensures (omega arith) (back w64 _ c.value-1.given)
 
 pub nexts_in_spec : {M : Type 1} → statement M

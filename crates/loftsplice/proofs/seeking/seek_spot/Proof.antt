@@ -32,7 +32,7 @@ high c = ((origin c).pre.1.1.1 c.if-end-from.false).1
 abbrev st : tie.After-run_for-run → tie.Start
 st c = origin c.before.before
 
-some : (c : tie.After-run_for-run) → (st c).args.window.from-1.index < (st c).args.window.end
+some : (c : tie.After-run_for-run) → (st c).args.window.from.index < (st c).args.window.end
 some c = c.before.before.if-end-from.false
 
 run : (c : tie.After-run_for-run) → let w = (st c).args.window in RunFor (st c).args.starts.now (st c).args.target w.from-1.place.run (w.last + 1) c.run_for-run.result
@@ -50,7 +50,7 @@ found c =
 
 known : (c : tie.After-index_in-arg-2-1) →
     let at-slice2 = c.before.before.before in let at-larger = at-slice2.before in let at-end-before = at-larger.before in let s = st (found c) in
-    Sought (column_now s.args.starts s.args.ends s.args.steps) s.args.target s.args.window.from-1.index s.args.window.end (found c).run_for-run.result at-end-before.end_Before.result at-larger.larger-a.result c.before.before.smaller-b.result
+    Sought (column_now s.args.starts s.args.ends s.args.steps) s.args.target s.args.window.from.index s.args.window.end (found c).run_for-run.result at-end-before.end_Before.result at-larger.larger-a.result c.before.before.smaller-b.result
 known c =
     let at-slice2 = c.before.before.before in
     let at-larger = at-slice2.before in
@@ -81,13 +81,13 @@ returns c =
 add-run-for : tie.Need-overflow_add-window
 add-run-for c =
     let s = origin c.before in
-    omega (arith, high c.before, last-there _ (whole s) s.args.window.from-1.index s.args.window.end c.before.if-end-from.false (fit s), (whole s).shaped.few)
+    omega (arith, high c.before, last-there _ (whole s) s.args.window.from.index s.args.window.end c.before.if-end-from.false (fit s), (whole s).shaped.few)
 
 run-for-requires : tie.Need-run_for-run-requires
 run-for-requires c κs =
     let s = origin c.before in
-    let l = last-there _ (whole s) s.args.window.from-1.index s.args.window.end c.before.if-end-from.false (fit s) in
-    let o = in_order _ (whole s) s.args.window.from-1.index s.args.window.end c.before.if-end-from.false (fit s) in
+    let l = last-there _ (whole s) s.args.window.from.index s.args.window.end c.before.if-end-from.false (fit s) in
+    let o = in_order _ (whole s) s.args.window.from.index s.args.window.end c.before.if-end-from.false (fit s) in
     (omega (arith, low c.before, high c.before), omega (arith, high c.before, (whole s).shaped))
 
 end-before-requires : tie.Need-end_before-first-requires

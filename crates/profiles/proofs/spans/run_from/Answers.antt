@@ -37,7 +37,7 @@ pub loop-lo-init : goal.loop-lo-init
 loop-lo-init c = (omega arith, c.requires., omega arith, λ l. absurd (omega arith), λ l. absurd (omega arith))
 
 pub overflow_add-mid : goal.overflow_add-mid
-overflow_add-mid c = omega (arith, c.loop-lo.invariant.2, c.well-formed)
+overflow_add-mid c = omega (arith, c.loop-lo.invariant.2, c.well_formed)
 
 pub bounds-starts-mid : goal.bounds-starts-mid
 bounds-starts-mid c = omega (arith, c.loop-lo.invariant.2)

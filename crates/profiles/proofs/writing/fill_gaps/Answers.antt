@@ -20,24 +20,24 @@ module _ (c : At-loop-k) where
   front : length (between st.args.first st.args.step c.loop-k.k) ≡ c.loop-k.at
   front = between-length st.args.first st.args.step c.loop-k.k ∙ sym c.loop-k.invariant.1
 
-  within : c.loop-k.at ≤ length st.args.out-1.now
+  within : c.loop-k.at ≤ length st.args.out.now
   within =
       let g : (st.args.step - 1) * c.loop-k.k ≤ (st.args.step - 1) * st.args.gaps = mul-le-mul_left (st.args.step - 1) c.loop-k.invariant.0 in
       omega (arith, c.loop-k.invariant.1, st.pre.1)
 
-  long : length c.loop-k.out-1 ≡ length st.args.out-1.now
-  long = front_length (between st.args.first st.args.step c.loop-k.k) st.args.out-1.now c.loop-k.at front c.loop-k.out-1 c.loop-k.invariant.3 within
+  long : length c.loop-k.out ≡ length st.args.out.now
+  long = front_length (between st.args.first st.args.step c.loop-k.k) st.args.out.now c.loop-k.at front c.loop-k.out c.loop-k.invariant.3 within
 
 -- in a turn
 module _ (c : In-loop-k) where
   abbrev at : At-loop-k
   at = c.before
 
-  room : at.loop-k.at + ((st at).args.step - 1) ≤ length (st at).args.out-1.now
+  room : at.loop-k.at + ((st at).args.step - 1) ≤ length (st at).args.out.now
   room = omega (arith, at.loop-k.invariant.1, (st at).pre.1, gaps-room ((st at).args.step - 1) at.loop-k.k (st at).args.gaps c.loop-k-test.true)
 
-  lent : length (take (at.loop-k.at + ((st at).args.step - 1) - at.loop-k.at) (drop at.loop-k.at at.loop-k.out-1)) ≡ (st at).args.step - 1
-  lent = lent_length (between (st at).args.first (st at).args.step at.loop-k.k) (st at).args.out-1.now at.loop-k.at (front at) at.loop-k.out-1 at.loop-k.invariant.3
+  lent : length (take (at.loop-k.at + ((st at).args.step - 1) - at.loop-k.at) (drop at.loop-k.at at.loop-k.out)) ≡ (st at).args.step - 1
+  lent = lent_length (between (st at).args.first (st at).args.step at.loop-k.k) (st at).args.out.now at.loop-k.at (front at) at.loop-k.out at.loop-k.invariant.3
       (at.loop-k.at + ((st at).args.step - 1)) ((st at).args.step - 1) refl room
 
   reach : (st at).args.step * at.loop-k.k ≤ (st at).args.step * (st at).args.gaps
@@ -56,9 +56,8 @@ overflow_add-next c = omega (arith, room c, (st (at c)).good)
 pub offset_bounds-out-at : goal.offset_bounds-out-at
 offset_bounds-out-at c = omega (arith, within (at c), (st (at c)).good)
 
--- LEFT: no such goal: slice-bounds-fill-end
-pub part-fill-end : goal.part-fill-end
-part-fill-end c = omega (arith, room c, long (at c))
+pub slice_bounds-fill-end : goal.slice_bounds-fill-end
+slice_bounds-fill-end c = omega (arith, room c, long (at c))
 
 pub fill-requires : goal.fill-requires
 fill-requires c = let t = c.before in omega (arith, lent t, small t, (st (at t)).pre.3)
@@ -78,9 +77,9 @@ loop-k-preserved c =
       omega arith,
       omega (arith, a.loop-k.invariant.1, mul-add (s.args.step - 1) a.loop-k.k 1),
       omega (arith, a.loop-k.invariant.2, mul-add s.args.step a.loop-k.k 1),
-      lent_back (between s.args.first s.args.step a.loop-k.k) s.args.out-1.now a.loop-k.at (front a) a.loop-k.out-1 a.loop-k.invariant.3 e (s.args.step - 1) refl (room t) _ (stepped a.loop-k.value 1) f.fill.ensures
-          ∙ ap (λ v. (between s.args.first s.args.step a.loop-k.k ++ stepped v 1 (s.args.step - 1)) ++ drop e s.args.out-1.now) a.loop-k.invariant.2
-          ∙ ap (λ x. x ++ drop e s.args.out-1.now) (between_next s.args.first s.args.step a.loop-k.k),
+      lent_back (between s.args.first s.args.step a.loop-k.k) s.args.out.now a.loop-k.at (front a) a.loop-k.out a.loop-k.invariant.3 e (s.args.step - 1) refl (room t) _ (stepped a.loop-k.value 1) f.fill.ensures
+          ∙ ap (λ v. (between s.args.first s.args.step a.loop-k.k ++ stepped v 1 (s.args.step - 1)) ++ drop e s.args.out.now) a.loop-k.invariant.2
+          ∙ ap (λ x. x ++ drop e s.args.out.now) (between_next s.args.first s.args.step a.loop-k.k),
     )
 
 pub shape_of-out : goal.shape_of-out
@@ -91,5 +90,5 @@ returns c =
     let a = c.before in
     let s = st a in
     let e : a.loop-k.k ≡ s.args.gaps = omega arith in
-    let z : drop a.loop-k.at s.args.out-1.now ≡ [] = drop_of_length-le s.args.out-1.now {i = a.loop-k.at} (omega (arith, a.loop-k.invariant.1, ap (λ x. (s.args.step - 1) * x) e, s.pre.1)) in
+    let z : drop a.loop-k.at s.args.out.now ≡ [] = drop_of_length-le s.args.out.now {i = a.loop-k.at} (omega (arith, a.loop-k.invariant.1, ap (λ x. (s.args.step - 1) * x) e, s.pre.1)) in
     a.loop-k.invariant.3 ∙ ap (λ l. between s.args.first s.args.step a.loop-k.k ++ l) z ∙ append-nil (between s.args.first s.args.step a.loop-k.k) ∙ ap (between s.args.first s.args.step) e

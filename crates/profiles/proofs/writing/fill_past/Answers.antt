@@ -24,14 +24,14 @@ module _ (c : Else-n-eq0) where
   last : st.args.first + st.args.step * (st.args.n - 1) < 4294967295
   last = st.pre.1.last some
 
-  long : length st.args.out-1.now ≡ st.args.first - st.args.at + (st.args.step - 1) * (st.args.n - 1)
+  long : length st.args.out.now ≡ st.args.first - st.args.at + (st.args.step - 1) * (st.args.n - 1)
   long = st.pre.0 ∙ past-long st.args.at st.args.first st.args.step st.args.n some
 
 pub returns-then-n-eq0 : goal.returns-then-n-eq0
 returns-then-n-eq0 c =
     let s = c.before.before in
     let e = past-none s.args.at s.args.first s.args.step s.args.n c.if-n-eq0.true in
-    none-long s.args.out-1.now (s.requires.out_len ∙ ap length e) ∙ sym e
+    none-long s.args.out.now (s.requires.out_len ∙ ap length e) ∙ sym e
 
 pub overflow_sub-gap : goal.overflow_sub-gap
 overflow_sub-gap c = above c
@@ -57,11 +57,10 @@ pub offset_bounds-out-gap : goal.offset_bounds-out-gap
 offset_bounds-out-gap c = let f = c.before.before in omega (arith, above (low f), last (low f))
 
 pub slice_bounds-fill_between-count : goal.slice_bounds-fill_between-count
-slice_bounds-fill_between-count c = let f = c.before.before in omega (arith, front_long (st (low f)).args.out-1.now _ (st (low f)).args.at _ (gaps f) (long (low f)) f.fill.ensures)
+slice_bounds-fill_between-count c = let f = c.before.before in omega (arith, front_long (st (low f)).args.out.now _ (st (low f)).args.at _ (gaps f) (long (low f)) f.fill.ensures)
 
--- LEFT: no such goal: slice-bounds-fill-between-start
-pub part-fill-between-start : goal.part-fill-between-start
-part-fill-between-start c = let f = c.before.before in omega (arith, front_long (st (low f)).args.out-1.now _ (st (low f)).args.at _ (gaps f) (long (low f)) f.fill.ensures)
+pub slice_bounds-fill_between-start : goal.slice_bounds-fill_between-start
+slice_bounds-fill_between-start c = let f = c.before.before in omega (arith, front_long (st (low f)).args.out.now _ (st (low f)).args.at _ (gaps f) (long (low f)) f.fill.ensures)
 
 pub overflow_sub-n : goal.overflow_sub-n
 overflow_sub-n c =
@@ -75,7 +74,7 @@ fill_between-requires c =
     let f = s.before.before in
     let t = st (low f) in (
       t.pre.1.up.0,
-      rest-length t.args.out-1.now _ t.args.at _ (gaps f) (long (low f)) f.fill.ensures,
+      rest-length t.args.out.now _ t.args.at _ (gaps f) (long (low f)) f.fill.ensures,
       last (low f),
       t.pre.1.up.1,
     )
@@ -86,6 +85,6 @@ returns c =
     let s = g.before.before in
     let f = s.before.before in
     let t = st (low f) in
-    rest_back t.args.out-1.now _ t.args.at _ (gaps f) (long (low f)) f.fill.ensures _
+    rest_back t.args.out.now _ t.args.at _ (gaps f) (long (low f)) f.fill.ensures _
     ∙ ap (λ x. stepped t.args.at 1 (t.args.first - t.args.at) ++ x) g.fill_between.ensures
     ∙ sym (past-some t.args.at t.args.first t.args.step t.args.n (some (low f)))

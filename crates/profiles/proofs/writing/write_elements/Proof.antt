@@ -40,11 +40,11 @@ module _ (c : tie.At-loop-r invariant-loop decreases-loop) where
   abbrev front : List ℕ
   front = below (col st) st.args.from st.args.to c.loop-r.r
 
-  within : c.loop-r.n ≤ length st.args.out-1.now
+  within : c.loop-r.n ≤ length st.args.out.now
   within = omega (arith, c.loop-r.invariant.1, st.pre.1.1, elements-most (col st) st.args.count st.pre.0 st.args.from st.args.to st.pre.1.0.0 c.loop-r.r)
 
-  long : length c.loop-r.out-1 ≡ length st.args.out-1.now
-  long = front_length front st.args.out-1.now c.loop-r.n c.loop-r.invariant.1 c.loop-r.out-1 c.loop-r.invariant.2 within
+  long : length c.loop-r.out ≡ length st.args.out.now
+  long = front_length front st.args.out.now c.loop-r.n c.loop-r.invariant.1 c.loop-r.out c.loop-r.invariant.2 within
 
 there : (c : tie.In-loop-r invariant-loop decreases-loop) → c.before.loop-r.r < length (st c.before).args.ends.now
 there c =
@@ -62,7 +62,7 @@ module _ (c : tie.After-part_at-part invariant-loop decreases-loop) where
   abbrev m : ℕ
   m = c.part_at-part.result.n
 
-  room : at.loop-r.n + m ≤ length (st at).args.out-1.now
+  room : at.loop-r.n + m ≤ length (st at).args.out.now
   room = omega (
     arith,
     at.loop-r.invariant.1,
@@ -71,8 +71,8 @@ module _ (c : tie.After-part_at-part invariant-loop decreases-loop) where
         (there turn) c.part_at-part.ensures,
   )
 
-  lent : length (take (at.loop-r.n + m - at.loop-r.n) (drop at.loop-r.n at.loop-r.out-1)) ≡ m
-  lent = lent_length (front at) (st at).args.out-1.now at.loop-r.n at.loop-r.invariant.1 at.loop-r.out-1 at.loop-r.invariant.2 (at.loop-r.n + m) m refl room
+  lent : length (take (at.loop-r.n + m - at.loop-r.n) (drop at.loop-r.n at.loop-r.out)) ≡ m
+  lent = lent_length (front at) (st at).args.out.now at.loop-r.n at.loop-r.invariant.1 at.loop-r.out at.loop-r.invariant.2 (at.loop-r.n + m) m refl room
 
   next : front at ++ stepped c.part_at-part.result.first c.part_at-part.result.step m ≡ below (col (st at)) (st at).args.from (st at).args.to (at.loop-r.r + 1)
   next = elements-next (col (st at)) (st at).args.count (st at).pre.0 (st at).args.from (st at).args.to (st at).pre.1.0.0 at.loop-r.r c.part_at-part.result.first c.part_at-part.result.step m
@@ -82,7 +82,7 @@ loop-holds : tie.Need-loop-r-init invariant-loop decreases-loop
 loop-holds c =
     let s = c.before.before in
     let z = elements-none (col s) s.args.count s.requires.0 s.args.from s.args.to s.requires.1.0.0 s.args.begin s.args.stop s.requires.1.0.2 in
-    (s.requires.1.0.2.order, ap length z, ap (λ l. l ++ s.args.out-1.now) (sym z))
+    (s.requires.1.0.2.order, ap length z, ap (λ l. l ++ s.args.out.now) (sym z))
 
 part-at-requires : tie.Need-part_at-part-requires invariant-loop decreases-loop
 part-at-requires c κs = let s = st c.before in (s.pre.0, (there c, s.pre.1.0.0))
@@ -96,13 +96,11 @@ mul-fill c = omega (arith, within (at c), (st (at c)).good)
 sub-fill : tie.Need-slice_bounds-fill-count invariant-loop decreases-loop
 sub-fill c = omega arith
 
--- LEFT: no such goal: slice-bounds-fill-start
--- part-fill-start : tie.Need-slice-bounds-fill-start invariant-loop decreases-loop
--- part-fill-start c = omega arith
+part-fill-start : tie.Need-slice_bounds-fill-start invariant-loop decreases-loop
+part-fill-start c = omega arith
 
--- LEFT: no such goal: slice-bounds-fill-end
--- part-fill-end : tie.Need-slice-bounds-fill-end invariant-loop decreases-loop
--- part-fill-end c = omega (arith, room c, long (at c))
+part-fill-end : tie.Need-slice_bounds-fill-end invariant-loop decreases-loop
+part-fill-end c = omega (arith, room c, long (at c))
 
 fill-requires : tie.Need-fill-requires invariant-loop decreases-loop
 fill-requires c κs = let k = c.before in rw (lent k) (omega (arith, k.part_at-part.ensures.near))
@@ -121,8 +119,8 @@ loop-again c =
     let s = st a in (
       omega arith,
       ap length (sym (next k)) ∙ length-append (front a) _ ∙ ap₂ (λ x y. x + y) a.loop-r.invariant.1 (each-length (λ j. k.part_at-part.result.first + k.part_at-part.result.step * j) (m k)),
-      lent_back (front a) s.args.out-1.now a.loop-r.n a.loop-r.invariant.1 a.loop-r.out-1 a.loop-r.invariant.2 (a.loop-r.n + m k) (m k) refl (room k) _ (stepped k.part_at-part.result.first k.part_at-part.result.step) f.fill.ensures
-          ∙ ap (λ x. x ++ drop (a.loop-r.n + m k) s.args.out-1.now) (next k),
+      lent_back (front a) s.args.out.now a.loop-r.n a.loop-r.invariant.1 a.loop-r.out a.loop-r.invariant.2 (a.loop-r.n + m k) (m k) refl (room k) _ (stepped k.part_at-part.result.first k.part_at-part.result.step) f.fill.ensures
+          ∙ ap (λ x. x ++ drop (a.loop-r.n + m k) s.args.out.now) (next k),
     )
 
 same_length : tie.Need-shape_of-out invariant-loop decreases-loop
@@ -135,14 +133,8 @@ returns c =
     let e : a.loop-r.r ≡ s.args.stop = omega arith in
     let all : front a ≡ numbers_in (carries_record (sequence_of (col s))) s.args.from s.args.to =
     ap (below (col s) s.args.from s.args.to) e ∙ elements-done (col s) s.args.count s.pre.0 s.args.from s.args.to s.pre.1.0.0 s.args.begin s.args.stop s.pre.1.0.2 in
-    let n : a.loop-r.n ≡ length s.args.out-1.now = sym a.loop-r.invariant.1 ∙ ap length all ∙ sym s.pre.1.1 in
-    a.loop-r.invariant.2 ∙ ap₂ (λ x y. x ++ y) all (drop_of_length-le s.args.out-1.now {i = a.loop-r.n} (omega arith)) ∙ append-nil _
-
-slice_bounds-fill-start : tie.Need-slice_bounds-fill-start invariant-loop decreases-loop
-slice_bounds-fill-start c = search rules
-
-slice_bounds-fill-end : tie.Need-slice_bounds-fill-end invariant-loop decreases-loop
-slice_bounds-fill-end c = search rules
+    let n : a.loop-r.n ≡ length s.args.out.now = sym a.loop-r.invariant.1 ∙ ap length all ∙ sym s.pre.1.1 in
+    a.loop-r.invariant.2 ∙ ap₂ (λ x y. x ++ y) all (drop_of_length-le s.args.out.now {i = a.loop-r.n} (omega arith)) ∙ append-nil _
 
 pub write_elements_spec : {M : Type 1} → statement M
-write_elements_spec = tie.close (tie.spec invariant-loop decreases-loop loop-holds part-at-requires add-next mul-fill sub-fill slice_bounds-fill-start slice_bounds-fill-end fill-requires add_r loop-less loop-again same_length returns)
+write_elements_spec = tie.close (tie.spec invariant-loop decreases-loop loop-holds part-at-requires add-next mul-fill sub-fill part-fill-start part-fill-end fill-requires add_r loop-less loop-again same_length returns)

@@ -42,11 +42,11 @@ module _ (c : tie.At-loop-r invariant-loop decreases-loop) where
   abbrev front : List ℕ
   front = below (col st) st.args.from c.loop-r.at
 
-  within : c.loop-r.n ≤ length st.args.out-1.now
+  within : c.loop-r.n ≤ length st.args.out.now
   within = omega (arith, c.loop-r.invariant.2, st.pre.1.1, others-most (col st) st.args.count st.pre.0 st.args.from st.args.to st.pre.1.0.0 c.loop-r.r c.loop-r.at c.loop-r.invariant.1)
 
-  long : length c.loop-r.out-1 ≡ length st.args.out-1.now
-  long = front_length front st.args.out-1.now c.loop-r.n c.loop-r.invariant.2 c.loop-r.out-1 c.loop-r.invariant.3 within
+  long : length c.loop-r.out ≡ length st.args.out.now
+  long = front_length front st.args.out.now c.loop-r.n c.loop-r.invariant.2 c.loop-r.out c.loop-r.invariant.3 within
 
 there : (c : tie.In-loop-r invariant-loop decreases-loop) → c.before.loop-r.r < length (st c.before).args.ends.now
 there c =
@@ -68,7 +68,7 @@ module _ (c : tie.After-part_at-part invariant-loop decreases-loop) where
   ahead = others-ahead (col (st at)) (st at).args.count (st at).pre.0 (st at).args.from (st at).args.to (st at).pre.1.0.0 at.loop-r.r at.loop-r.at c.part_at-part.result.first c.part_at-part.result.step
       c.part_at-part.result.n (there turn) at.loop-r.invariant.1 c.part_at-part.ensures (st at).pre.1.0.1
 
-  room : at.loop-r.n + length past ≤ length (st at).args.out-1.now
+  room : at.loop-r.n + length past ≤ length (st at).args.out.now
   room = omega (
     arith,
     at.loop-r.invariant.2,
@@ -90,17 +90,17 @@ module _ (c : tie.After-passed invariant-loop decreases-loop) where
   abbrev run : tie.After-part_at-part invariant-loop decreases-loop
   run = c.before
 
-  fits : (at run).loop-r.n + c.passed.result ≤ length (st (at run)).args.out-1.now
+  fits : (at run).loop-r.n + c.passed.result ≤ length (st (at run)).args.out.now
   fits = omega (arith, c.passed.ensures, room run)
 
-  lent : length (take ((at run).loop-r.n + c.passed.result - (at run).loop-r.n) (drop (at run).loop-r.n (at run).loop-r.out-1)) ≡ c.passed.result
-  lent = lent_length (front (at run)) (st (at run)).args.out-1.now (at run).loop-r.n (at run).loop-r.invariant.2 (at run).loop-r.out-1 (at run).loop-r.invariant.3 ((at run).loop-r.n + c.passed.result) c.passed.result refl fits
+  lent : length (take ((at run).loop-r.n + c.passed.result - (at run).loop-r.n) (drop (at run).loop-r.n (at run).loop-r.out)) ≡ c.passed.result
+  lent = lent_length (front (at run)) (st (at run)).args.out.now (at run).loop-r.n (at run).loop-r.invariant.2 (at run).loop-r.out (at run).loop-r.invariant.3 ((at run).loop-r.n + c.passed.result) c.passed.result refl fits
 
 loop-holds : tie.Need-loop-r-init invariant-loop decreases-loop
 loop-holds c =
     let s = c.before.before in
     let z = numbers-same (λ i. not (carries_record (sequence_of (col s)) i)) s.args.from in
-    (s.requires.1.0.2.order, others-first (col s) s.args.count s.requires.0 s.args.from s.args.to s.requires.1.0.0 s.args.begin s.args.stop s.requires.1.0.2, ap length z, ap (λ l. l ++ s.args.out-1.now) (sym z))
+    (s.requires.1.0.2.order, others-first (col s) s.args.count s.requires.0 s.args.from s.args.to s.requires.1.0.0 s.args.begin s.args.stop s.requires.1.0.2, ap length z, ap (λ l. l ++ s.args.out.now) (sym z))
 
 part-at-requires : tie.Need-part_at-part-requires invariant-loop decreases-loop
 part-at-requires c κs = let s = st c.before in (s.pre.0, (there c, s.pre.1.0.0))
@@ -117,13 +117,11 @@ mul-fill-past c = omega (arith, within (at (run c)), (st (at (run c))).good)
 sub-fill-past : tie.Need-slice_bounds-fill_past-count invariant-loop decreases-loop
 sub-fill-past c = omega arith
 
--- LEFT: no such goal: slice-bounds-fill-past-start
--- part-fill-past-start : tie.Need-slice-bounds-fill-past-start invariant-loop decreases-loop
--- part-fill-past-start c = omega arith
+part-fill-past-start : tie.Need-slice_bounds-fill_past-start invariant-loop decreases-loop
+part-fill-past-start c = omega arith
 
--- LEFT: no such goal: slice-bounds-fill-past-end
--- part-fill-past-end : tie.Need-slice-bounds-fill-past-end invariant-loop decreases-loop
--- part-fill-past-end c = omega (arith, fits c, long (at (run c)))
+part-fill-past-end : tie.Need-slice_bounds-fill_past-end invariant-loop decreases-loop
+part-fill-past-end c = omega (arith, fits c, long (at (run c)))
 
 fill-past-requires : tie.Need-fill_past-requires invariant-loop decreases-loop
 fill-past-requires c κs = let k = c.before in (lent k ∙ k.passed.ensures, ahead (run k))
@@ -151,8 +149,8 @@ loop-again c =
       omega arith,
       subst⁻¹ (λ x. Others (col s) s.args.from s.args.to (a.loop-r.r + 1) x) e (next (run k)),
       ap (λ x. length (below (col s) s.args.from x)) e ∙ ap length (sym (joined (run k))) ∙ length-append (front a) (past (run k)) ∙ ap₂ (λ x y. x + y) a.loop-r.invariant.2 (sym k.passed.ensures),
-      lent_back (front a) s.args.out-1.now a.loop-r.n a.loop-r.invariant.2 a.loop-r.out-1 a.loop-r.invariant.3 (a.loop-r.n + k.passed.result) k.passed.result refl (fits k) _ (λ x. past (run k)) f.fill_past.ensures
-          ∙ ap (λ x. x ++ drop (a.loop-r.n + k.passed.result) s.args.out-1.now) (joined (run k) ∙ ap (below (col s) s.args.from) (sym e)),
+      lent_back (front a) s.args.out.now a.loop-r.n a.loop-r.invariant.2 a.loop-r.out a.loop-r.invariant.3 (a.loop-r.n + k.passed.result) k.passed.result refl (fits k) _ (λ x. past (run k)) f.fill_past.ensures
+          ∙ ap (λ x. x ++ drop (a.loop-r.n + k.passed.result) s.args.out.now) (joined (run k) ∙ ap (below (col s) s.args.from) (sym e)),
     )
 
 -- past the last run
@@ -166,13 +164,13 @@ module _ (c : tie.After-loop-r invariant-loop decreases-loop) where
   at-stop : Others (col (st done)) (st done).args.from (st done).args.to (st done).args.stop done.loop-r.at
   at-stop = subst (λ x. Others (col (st done)) (st done).args.from (st done).args.to x done.loop-r.at) all done.loop-r.invariant.1
 
-  rest : length done.loop-r.out-1 ≡ done.loop-r.n + ((st done).args.to - done.loop-r.at)
+  rest : length done.loop-r.out ≡ done.loop-r.n + ((st done).args.to - done.loop-r.at)
   rest =
       long done ∙ (st done).pre.1.1 ∙ sym (others-rest (col (st done)) (st done).args.count (st done).pre.0 (st done).args.from (st done).args.to (st done).pre.1.0.0 (st done).args.begin (st done).args.stop (st done).pre.1.0.2 done.loop-r.at at-stop)
       ∙ ap (λ x. x + ((st done).args.to - done.loop-r.at)) done.loop-r.invariant.2
 
-  short : length (take (length done.loop-r.out-1 - done.loop-r.n) (drop done.loop-r.n done.loop-r.out-1)) ≡ (st done).args.to - done.loop-r.at
-  short = lent_length (front done) (st done).args.out-1.now done.loop-r.n done.loop-r.invariant.2 done.loop-r.out-1 done.loop-r.invariant.3 (length done.loop-r.out-1) ((st done).args.to - done.loop-r.at) rest (omega (arith, long done))
+  short : length (take (length done.loop-r.out - done.loop-r.n) (drop done.loop-r.n done.loop-r.out)) ≡ (st done).args.to - done.loop-r.at
+  short = lent_length (front done) (st done).args.out.now done.loop-r.n done.loop-r.invariant.2 done.loop-r.out done.loop-r.invariant.3 (length done.loop-r.out) ((st done).args.to - done.loop-r.at) rest (omega (arith, long done))
 
 mul-fill : tie.Need-offset_bounds-out-n-2 invariant-loop decreases-loop
 mul-fill c = omega (arith, within (done c), (st (done c)).good)
@@ -180,13 +178,11 @@ mul-fill c = omega (arith, within (done c), (st (done c)).good)
 sub-fill : tie.Need-slice_bounds-fill-count invariant-loop decreases-loop
 sub-fill c = omega (arith, within (done c), long (done c))
 
--- LEFT: no such goal: slice-bounds-fill-start
--- part-fill-start : tie.Need-slice-bounds-fill-start invariant-loop decreases-loop
--- part-fill-start c = omega (arith, within (done c), long (done c))
+part-fill-start : tie.Need-slice_bounds-fill-start invariant-loop decreases-loop
+part-fill-start c = omega (arith, within (done c), long (done c))
 
--- LEFT: no such goal: slice-bounds-fill-end
--- part-fill-end : tie.Need-slice-bounds-fill-end invariant-loop decreases-loop
--- part-fill-end c = search rules
+part-fill-end : tie.Need-slice_bounds-fill-end invariant-loop decreases-loop
+part-fill-end c = search rules
 
 fill-requires : tie.Need-fill-requires invariant-loop decreases-loop
 fill-requires c κs = let l = c.before in omega (arith, short l, (at-stop l).since, (st (done l)).pre.1.0.1, (st (done l)).pre.0.few, others-within l)
@@ -202,11 +198,11 @@ module _ (c : tie.After-fill invariant-loop decreases-loop) where
   abbrev d : tie.At-loop-r invariant-loop decreases-loop
   d = done left
 
-  final : (w : List ℕ) → w ≡ stepped d.loop-r.at 1 (length (take (length d.loop-r.out-1 - d.loop-r.n) (drop d.loop-r.n d.loop-r.out-1)))
-      → put_mid d.loop-r.n (length d.loop-r.out-1 - d.loop-r.n) d.loop-r.out-1 w ≡ below (col (st d)) (st d).args.from (st d).args.to
+  final : (w : List ℕ) → w ≡ stepped d.loop-r.at 1 (length (take (length d.loop-r.out - d.loop-r.n) (drop d.loop-r.n d.loop-r.out)))
+      → put_mid d.loop-r.n (length d.loop-r.out - d.loop-r.n) d.loop-r.out w ≡ below (col (st d)) (st d).args.from (st d).args.to
   final w h =
-      lent_back (front d) (st d).args.out-1.now d.loop-r.n d.loop-r.invariant.2 d.loop-r.out-1 d.loop-r.invariant.3 (length d.loop-r.out-1) ((st d).args.to - d.loop-r.at) (rest left) (omega (arith, long d)) w (stepped d.loop-r.at 1) h
-      ∙ ap₂ (λ x y. x ++ y) (others-end (col (st d)) (st d).args.count (st d).pre.0 (st d).args.from (st d).args.to (st d).pre.1.0.0 (st d).args.begin (st d).args.stop (st d).pre.1.0.2 d.loop-r.at (at-stop left)) (drop_of_length-le (st d).args.out-1.now {i = length d.loop-r.out-1} (omega (arith, long d)))
+      lent_back (front d) (st d).args.out.now d.loop-r.n d.loop-r.invariant.2 d.loop-r.out d.loop-r.invariant.3 (length d.loop-r.out) ((st d).args.to - d.loop-r.at) (rest left) (omega (arith, long d)) w (stepped d.loop-r.at 1) h
+      ∙ ap₂ (λ x y. x ++ y) (others-end (col (st d)) (st d).args.count (st d).pre.0 (st d).args.from (st d).args.to (st d).pre.1.0.0 (st d).args.begin (st d).args.stop (st d).pre.1.0.2 d.loop-r.at (at-stop left)) (drop_of_length-le (st d).args.out.now {i = length d.loop-r.out} (omega (arith, long d)))
       ∙ append-nil _
 
 same_length : tie.Need-shape_of-out invariant-loop decreases-loop
@@ -215,17 +211,5 @@ same_length c = let f = c.before.before in ap length (final f _ f.fill.ensures) 
 returns : tie.Need-returns invariant-loop decreases-loop
 returns c = let f = c.before.before in final f _ f.fill.ensures
 
-slice_bounds-fill_past-start : tie.Need-slice_bounds-fill_past-start invariant-loop decreases-loop
-slice_bounds-fill_past-start c = search rules
-
-slice_bounds-fill_past-end : tie.Need-slice_bounds-fill_past-end invariant-loop decreases-loop
-slice_bounds-fill_past-end c = search rules
-
-slice_bounds-fill-start : tie.Need-slice_bounds-fill-start invariant-loop decreases-loop
-slice_bounds-fill-start c = search rules
-
-slice_bounds-fill-end : tie.Need-slice_bounds-fill-end invariant-loop decreases-loop
-slice_bounds-fill-end c = search rules
-
 pub write_others_spec : {M : Type 1} → statement M
-write_others_spec = tie.close (tie.spec invariant-loop decreases-loop loop-holds part-at-requires passed-requires add-next mul-fill-past sub-fill-past slice_bounds-fill_past-start slice_bounds-fill_past-end fill-past-requires beyond-requires add_r loop-less loop-again mul-fill sub-fill slice_bounds-fill-start slice_bounds-fill-end fill-requires same_length returns)
+write_others_spec = tie.close (tie.spec invariant-loop decreases-loop loop-holds part-at-requires passed-requires add-next mul-fill-past sub-fill-past part-fill-past-start part-fill-past-end fill-past-requires beyond-requires add_r loop-less loop-again mul-fill sub-fill part-fill-start part-fill-end fill-requires same_length returns)

@@ -13,4 +13,4 @@ returns c =
     let first = at_out.before in
     let shr_slice_at = first.before.before.before in
     let s = shr_slice_at.before in
-    record-stored _ _ s.args.out-1.now _ _ _ refl first.write_le.ensures second.write_le-2.ensures third.write_runs.ensures
+    record-stored _ _ s.args.out.now _ _ _ refl first.write_le.ensures second.write_le-2.ensures third.write_runs.ensures

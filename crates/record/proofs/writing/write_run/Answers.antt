@@ -16,6 +16,6 @@ returns c =
     let first = at-slice-known2.before.before in
     let at-slice-known = first.before.before.before in
     let s = at-slice-known.before in
-    run-stored s.args.start s.args.step s.args.count first.unsigned64.result second.unsigned16.result s.args.at s.args.out-1.now _ _ _
+    run-stored s.args.start s.args.step s.args.count first.unsigned64.result second.unsigned16.result s.args.at s.args.out.now _ _ _
     first.write_le.ensures second.write_le-2.ensures third.write_le-3.ensures
     (first.unsigned64.ensures ∙ ap (of_signed 8) (to_z-of_z {w = w64} s.ranges.start)) (second.unsigned16.ensures ∙ ap (of_signed 2) (to_z-of_z {w = w16} s.ranges.step))

@@ -29,7 +29,7 @@ decreases-loop starts ends steps out₀ last₀ i₀ out last i = length ends - 
 known : (s : tie.Start invariant-loop decreases-loop) → Sound (column_now s.args.starts s.args.ends s.args.steps)
 known s = sound-parts _ s.requires.0
 
-long : (c : tie.At-loop-i invariant-loop decreases-loop) → length c.loop-i.out-1 ≡ length c.before.before.before.args.out-1.now
+long : (c : tie.At-loop-i invariant-loop decreases-loop) → length c.loop-i.out ≡ length c.before.before.before.args.out.now
 long c = ap length c.loop-i.invariant.2 ∙ simp length-sets
 
 loop-holds : tie.Need-loop-i-init invariant-loop decreases-loop
@@ -105,7 +105,7 @@ loop-again c =
     let s = l.before.before.before in (
       omega arith,
       before-next s.args.ends.now l.loop-i.i,
-      runs-stored (column_now s.args.starts s.args.ends s.args.steps) l.loop-i.i l.loop-i.last _ _ l.loop-i.out-1 s.args.out-1.now _ l.loop-i.invariant.1 (back w64 (get_or s.args.starts.now l.loop-i.i (pos 0)) r.before.before.write_run-arg-in-loop-i-1.given)
+      runs-stored (column_now s.args.starts s.args.ends s.args.steps) l.loop-i.i l.loop-i.last _ _ l.loop-i.out s.args.out.now _ l.loop-i.invariant.1 (back w64 (get_or s.args.starts.now l.loop-i.i (pos 0)) r.before.before.write_run-arg-in-loop-i-1.given)
           (back w16 (get_or s.args.steps.now l.loop-i.i (pos 0)) r.before.write_run-arg-in-loop-i-2-1.given) l.loop-i.invariant.2 r.write_run.ensures,
     )
 

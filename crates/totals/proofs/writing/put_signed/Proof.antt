@@ -20,7 +20,7 @@ invariant-loop values out₀ k₀ out k = (k ≤ length values) × (out ≡ sets
 abbrev decreases-loop : tie.decreases-loop-k
 decreases-loop values out₀ k₀ out k = length values - k
 
-long : (c : tie.At-loop-k invariant-loop decreases-loop) → length c.loop-k.out-1 ≡ length c.before.args.out-1.now
+long : (c : tie.At-loop-k invariant-loop decreases-loop) → length c.loop-k.out ≡ length c.before.args.out.now
 long c =
     let a = c.before.args in
     ap length c.loop-k.invariant.1 ∙ length-sets a.out-1.now 0 (each (λ k. get_or a.values.now k (pos 0)) c.loop-k.k)
@@ -50,7 +50,7 @@ loop-less c = search rules
 loop-again : tie.Need-loop-k-preserved invariant-loop decreases-loop
 loop-again c = let l = c.before.before in
     let s = l.before in
-    (omega arith, each_more (λ k. get_or s.args.values.now k (pos 0)) l.loop-k.out-1 s.args.out-1.now l.loop-k.k _ l.loop-k.invariant.1 (back w64 _ c.out-1.given))
+    (omega arith, each_more (λ k. get_or s.args.values.now k (pos 0)) l.loop-k.out s.args.out.now l.loop-k.k _ l.loop-k.invariant.1 (back w64 _ c.out-1.given))
 
 same_length : tie.Need-shape_of-out invariant-loop decreases-loop
 same_length c = long c.before
@@ -58,7 +58,7 @@ same_length c = long c.before
 returns : tie.Need-returns invariant-loop decreases-loop
 returns c = let l = c.before in
     let s = l.before in
-    filled-by (pos 0) s.args.values.now l.loop-k.out-1 s.args.out-1.now l.loop-k.k (omega (arith, l.loop-k.invariant.0)) s.requires l.loop-k.invariant.1
+    filled-by (pos 0) s.args.values.now l.loop-k.out s.args.out.now l.loop-k.k (omega (arith, l.loop-k.invariant.0)) s.requires l.loop-k.invariant.1
 
 pub put_signed_spec : {M : Type 1} → statement M
 put_signed_spec = tie.close (tie.spec invariant-loop decreases-loop loop-holds mul-out shared-slice-copy-out-out mul-t8 slice-set-from-out add-k loop-less loop-again same_length returns)
