@@ -71,29 +71,87 @@ class Turned:
         self.requires, self.ensures = labels(crate, function)
         n = names
         self.needs = {norm(a): b for a, b in n['needs']}
-        self.places, self.fields, self.clauses, self.raw, self.arms = {}, {}, {}, {}, {}
-        for i, (place, parent, (old, new), call, subs) in enumerate(n['places']):
-            self.places[norm(place)] = n['places_by_name'][i]
+        self.asks = {b: norm(at[0]) for (a, b), at in zip(n['needs'], n['asked_at'])}
+        self.places = {norm(p[0]): n['places_by_name'][i] for i, p in enumerate(n['places'])}
+        self.at = {norm(p[0]): i for i, p in enumerate(n['places'])}
+        self.left, self.env, self.helpers, self.lifts = [], {}, {}, True
+        self.seen_from(None)
+
+    # ---- places: a chain of steps, from one up to the start; the steps of an arm are one step today
+
+    def chain(self, place):
+        out, at = [], self.at.get(place)
+        while at is not None:
+            out.append(at)
+            parent = self.names['places'][at][1]
+            at = self.at[norm(parent)] if parent is not None else None
+        return out
+
+    def is_last(self, i):
+        arm = self.names['arms'][i]
+        return bool(arm) and self.names['places_by_name'][i] == 'In' + arm[0][2:]
+
+    def hidden(self, chain):
+        """The steps of arms that are no places of their own today, seen from the place at the chain's front."""
+        out = set()
+        for k, i in enumerate(chain):
+            if self.is_last(i):
+                out |= set(chain[k + 1:k + self.names['arms'][i][1]])
+        return out
+
+    def lifted(self, place):
+        """The place of the arm that a step belongs to, and how many steps lie between."""
+        i = self.at.get(place)
+        arm = self.names['arms'][i] if i is not None else None
+        if arm and not self.is_last(i):
+            for j, p in enumerate(self.names['places']):
+                chain = self.chain(norm(p[0]))
+                if self.is_last(j) and self.names['arms'][j][0] == arm[0] and i in chain:
+                    return norm(p[0]), chain.index(i)
+        return place, 0
+
+    def up(self, place, n):
+        """The place that so many steps before lead to, and how many steps that is today; an arm's own place where the step is hidden in it."""
+        top, off = self.lifted(place)
+        chain = self.chain(top)
+        k = n + off
+        if k >= len(chain):
+            return None, n
+        hidden = self.hidden(chain)
+        while chain[k] in hidden:
+            k -= 1
+        return norm(self.names['places'][chain[k]][0]), sum(1 for i in chain[:k] if i not in hidden)
+
+    def seen_from(self, place):
+        """Sets the old names of steps and their fields as they are seen from a place (from all, where none is given)."""
+        n = self.names
+        self.fields, self.clauses, self.raw, self.arms, self.own = {}, {}, {}, {}, {}
+        chain = self.chain(self.lifted(place)[0] if self.lifts else place) if place else range(len(n['places']))
+        hidden = self.hidden(chain) if place else set()
+        for i in chain:
+            _, _, (old, new), _, subs = n['places'][i]
             if old:
                 self.fields.setdefault(norm(old), new)
                 for a, b in subs:
                     self.raw.setdefault(norm(old), {})[a] = b
             c = n['clauses'][i]
             if c and old:
-                self.clauses[norm(old)] = c['fields']
+                self.clauses.setdefault(norm(old), c['fields'])
             arm = n['arms'][i]
             if arm:
                 for field, holder, path in arm[2]:
                     if path:
-                        self.arms[(norm(holder), tuple(path))] = (arm[0], field)
+                        self.arms.setdefault((norm(holder), tuple(path)), (arm[0], field))
+                    elif self.is_last(i):
+                        self.own.setdefault(norm(holder), (arm[0], field))
         for (old, new), _ in n['loops']:
             self.fields[norm(old)] = new
-        self.left = []
 
     # ---- paths
 
     def clause(self, names, rest):
         """Names the clause that a nested tuple's index reads; a walk reads the tuple itself."""
+        names = [n for n in names if n]
         if self.walks:
             return rest
         if len(names) == 1:
@@ -121,6 +179,9 @@ class Turned:
                 out.append(p)
             elif p == 'fits' and rest and rest[0] != 'sfits':
                 out.append('ranges')
+            elif p == 'pre':
+                out.append('requires')
+                return out + self.path(self.clause(self.requires, rest))
             elif p in ('inv', 'type-inv', 'well-formed'):
                 out.append({'inv': 'invariant'}.get(p, p.replace('-', '_')))
             elif p in ('taken', 'left', 'true', 'false', 'fact'):
@@ -139,7 +200,9 @@ class Turned:
                     out += list(hit[0])
                     i += 1 + hit[1]
                     continue
-                if norm(p) in self.fields and all(q == 'before' for q in parts[:i]):
+                if norm(p) in self.own and all(q == 'before' for q in parts[:i]):
+                    out += list(self.own[norm(p)])
+                elif norm(p) in self.fields and all(q == 'before' for q in parts[:i]):
                     out.append(self.fields[norm(p)])
                     if rest[:1] == ['ensures'] and norm(p) in self.clauses:
                         out.append('ensures')
@@ -154,18 +217,35 @@ class Turned:
             i += 1
         return out
 
+    def read(self, var, parts):
+        """A path in today's names."""
+        n = 0
+        while n < len(parts) and parts[n] == 'before':
+            n += 1
+        place = self.env.get(var)
+        if n == len(parts):  # a place
+            if place:
+                goal, steps = self.up(place, n)
+                if goal:
+                    return '.'.join([var] + ['before'] * steps)
+            return '.'.join([var] + parts)
+        if place:
+            goal, _ = self.up(place, n)
+            self.seen_from(place)
+            return '.'.join([var] + self.path(parts[n:]))
+        if var not in self.env and var != ')':
+            return '.'.join([var] + self.path(parts))
+        self.seen_from(None)
+        return '.'.join([var] + self.path(parts))
+
     def term(self, text):
-        alias = {}
+        alias, same = {}, {'c'} if self.env.get('c') else set()
 
         def turn(m):
             var, rest = m[1], m[2].split('.')[1:]
             if var in alias:
-                rest = self.clause(alias[var], rest)
-                return '.'.join([var] + self.path(rest))
-            return '.'.join([var] + self.path(rest))
-
-        def line(text):
-            return re.sub(r"((?<![\w.'-])%s|\))((?:\.[\w'-]+)+)" % WORD, turn, text)
+                return '.'.join([var] + self.path(self.clause(alias[var], rest)))
+            return self.read(var, rest)
 
         out = []
         for row in text.split('\n'):
@@ -178,14 +258,48 @@ class Turned:
                     alias[m[1]] = self.clauses[key]
             for m in re.finditer(r"let (%s) = \S*\brequires in" % WORD, row):
                 alias[m[1]] = self.requires
-            out.append(line(row))
+            if not self.walks:  # all that a place knows is a field of c
+                flat = re.sub(r"let (%s) = (%s)(?:\.before)* in *" % (WORD, WORD), lambda m: same.add(m[1]) or '' if m[2] in same else m[0], row)
+                if not flat.strip() and row.strip():
+                    continue
+                row = re.sub(r"(?<![\w.'-])(%s)(?![\w'₀₁-])" % WORD, lambda m: 'c' if m[1] in same else m[1], flat)
+                row = re.sub(r"(?<![\w.'-])c(?:\.before)+(?![\w.'-])", 'c', row)
+            was = None
+            for m in re.finditer(r"let (%s) = (%s)((?:\.before)*) in" % (WORD, WORD), row):
+                if m[2] in self.env and self.env[m[2]]:
+                    was = (m[1], self.up(self.env[m[2]], m[3].count('.'))[0])
+                elif m[2] in self.env:
+                    was = (m[1], None)
+            for m in re.finditer(r"let (%s) = (%s) (%s)((?:\.before)*) in" % (WORD, WORD, WORD), row):
+                if m[2] in self.helpers:
+                    was = (m[1], self.helpers[m[2]])
+            out.append(re.sub(r"((?<![\w.'-])%s|\))((?:\.[\w'-]+)+)" % WORD, turn, row))
+            if was:
+                self.env[was[0]] = was[1]
         return '\n'.join(out)
+
+    def opened(self, whole):
+        """Notes the places of a declaration's variables."""
+        self.env = {}
+        for m in re.finditer(r"\((%s) : tie\.([A-Z][\w'-]*)" % WORD, whole):
+            self.env[m[1]] = norm(m[2])
+        m = re.match(r"(?:abbrev |pub )*(\S+) : tie\.([A-Z][\w'-]*)[^→\n]*→ *(?:tie\.([A-Z][\w'-]*))?", whole)
+        if m:
+            e = re.search(r"^%s (%s) =" % (re.escape(m[1]), WORD), whole, re.M)
+            if e:
+                self.env[e[1]] = norm(m[2])
+            if m[3]:
+                self.helpers[m[1]] = norm(m[3])
+        m = re.match(r"(?:abbrev |pub )*(\S+) : \((%s) : tie\.([A-Z][\w'-]*)[^)]*\) → *tie\.([A-Z][\w'-]*)" % WORD, whole)
+        if m:
+            self.helpers[m[1]] = norm(m[4])
+        self.seen_from(next(iter(self.env.values()), None))
 
     def types(self, text):
         loops = [f"{k}-{o}" for (o, _), _ in self.names['loops'] for k in ('invariant', 'decreases')]
 
         def turn(m):
-            place = self.places.get(norm(m[1]))
+            place = self.places.get(self.lifted(norm(m[1]))[0])
             if not place:
                 self.left.append('place ' + m[1])
                 return m[0]
@@ -251,8 +365,10 @@ class Turned:
     def asked(self, new):
         return self.names['asked'].get(new) or (self.ensures if new.startswith('returns') and len(self.ensures) > 1 else [])
 
-    def answer(self, new, body):
+    def answer(self, new, pars, body):
         """An answer's body, in today's names."""
+        self.env = {pars[0]: self.asks.get(new)} if pars else {}
+        self.seen_from(self.asks.get(new))
         where = re.search(r"\n  where\n", body)
         tail = body[where.start():] if where else ''
         main = self.record(self.term(body[:where.start()] if where else body), self.asked(new))
@@ -270,7 +386,7 @@ class Turned:
                 continue
             m = re.match(r"((?:abbrev |pub )*)(\S+) : tie\.(invariant|decreases)-([\w-]+)", whole) if code else None
             if m:
-                out.append('\n'.join(notes + [f"{m[1]}{m[2]} : tie.{m[3]}-{self.fields[norm(m[4])]}"] + code[1:]))
+                out.append('\n'.join(notes + [f"{m[1]}{m[2]} : tie.{m[3]}-{dict((norm(o), w) for (o, w), _ in self.names['loops'])[norm(m[4])]}"] + code[1:]))
                 continue
             m = re.match(r"(?:pub )?(\S+) : tie\.Need-(\S+)([^\n]*)", whole) if code else None
             if m:
@@ -281,8 +397,9 @@ class Turned:
                     out.append('\n'.join(['-- LEFT: no such goal: ' + m[2]] + ['-- ' + l for l in b]))
                     continue
                 have[new], loops = m[1], m[3]
-                out.append('\n'.join(notes + [f"{m[1]} : tie.Need-{new}{m[3]}"] + ([unfolding] if unfolding else []) + [f"{m[1]} {' '.join(pars)} =" + self.answer(new, body)]))
+                out.append('\n'.join(notes + [f"{m[1]} : tie.Need-{new}{m[3]}"] + ([unfolding] if unfolding else []) + [f"{m[1]} {' '.join(pars)} =" + self.answer(new, pars, body)]))
                 continue
+            self.opened(whole)
             out.append('\n'.join(notes + [self.types(self.term(whole))]))
         name = self.function.split('.')[-1]
         for _, new in self.names['needs']:
@@ -371,8 +488,9 @@ class Turned:
                 if re.fullmatch(r"\s*(search (rules|needs)|omega arith)\s*", body):
                     continue
                 params = ' '.join(q for q in pars if q != 'κs')
-                answers.append('\n'.join(notes + [f"pub {new} : goal.{new}"] + ([unfolding] if unfolding else []) + [f"{new} {params} =" + self.answer(new, body)]))
+                answers.append('\n'.join(notes + [f"pub {new} : goal.{new}"] + ([unfolding] if unfolding else []) + [f"{new} {params} =" + self.answer(new, pars, body)]))
                 continue
+            self.opened(whole)
             answers.append('\n'.join(notes + [self.types(self.term(whole))]))
         mod = f"Rattle.{self.crate}.proofs.{self.function}"
         uses = [l for l in head if l.startswith('use ') and ' as tie' not in l and '.Statement.' not in l and not l.startswith('use denote.Slice')]

@@ -144,6 +144,7 @@ fn row(
 
 // Answers the first so many numbers, in one write. Answers whether to go on: not after a refusal or a write that failed.
 pub fn answered(
+    rt: &HostRuntime,
     starts: &[i64],
     ends: &[u64],
     steps: &[i16],
@@ -154,7 +155,7 @@ pub fn answered(
 ) -> bool {
     let mut flags = [0u8; 512];
     if let Checked::Refused(why) = flagged(starts, ends, steps, numbers, n, &mut flags) {
-        printing::refused(why);
+        printing::refused(rt, why);
         return false;
     }
     let mut buf = io::large_buffer();
@@ -164,54 +165,54 @@ pub fn answered(
         let k = numbers[i];
         let found = told(starts, ends, steps, k, flags[i], places);
         if let Found::Refused(why) = found {
-            printing::refused(why);
+            printing::refused(rt, why);
             return false;
         }
         at = row(k, found, places, sums, &mut buf, at);
         i += 1;
     }
-    printing::written(&buf, at)
+    printing::written(rt, &buf, at)
 }
 
 // The head of the rows: CSV alone has one.
-pub fn headed(places: &[usize; 16]) -> bool {
+pub fn headed(rt: &HostRuntime, places: &[usize; 16]) -> bool {
     if places[COUNT] != 0 {
         return true;
     }
-    said(places[FORMAT], b"", b"number,answer,index\n", b"")
+    said(rt, places[FORMAT], b"", b"number,answer,index\n", b"")
 }
 
-fn summed(form: usize, carried: u64, filled: u64) -> bool {
-    said(form, b"carried ", b"carried,filled\n", b"{\"carried\":")
-        && unsigned(carried)
-        && said(form, b"\nfilled ", b",", b",\"filled\":")
-        && unsigned(filled)
-        && said(form, b"\n", b"\n", b"}\n")
+fn summed(rt: &HostRuntime, form: usize, carried: u64, filled: u64) -> bool {
+    said(rt, form, b"carried ", b"carried,filled\n", b"{\"carried\":")
+        && unsigned(rt, carried)
+        && said(rt, form, b"\nfilled ", b",", b",\"filled\":")
+        && unsigned(rt, filled)
+        && said(rt, form, b"\n", b"\n", b"}\n")
 }
 
 // The end of the answers: the sums, or the end of a list.
-fn ended(places: &[usize; 16], sums: &[u64; 3]) -> bool {
+fn ended(rt: &HostRuntime, places: &[usize; 16], sums: &[u64; 3]) -> bool {
     if places[COUNT] != 0 {
-        return summed(places[FORMAT], sums[CARRIED_SUM], sums[FILLED_SUM]);
+        return summed(rt, places[FORMAT], sums[CARRIED_SUM], sums[FILLED_SUM]);
     }
     if sums[ROWS] == 0 {
-        return closed(lead(places[FORMAT]));
+        return closed(rt, lead(places[FORMAT]));
     }
-    closed(next(lead(places[FORMAT])))
+    closed(rt, next(lead(places[FORMAT])))
 }
 
 // A column that does not rise is refused before anything is written.
-pub fn find(starts: &[i64], ends: &[u64], steps: &[i16], places: &[usize; 16]) {
+pub fn find(rt: &HostRuntime, starts: &[i64], ends: &[u64], steps: &[i16], places: &[usize; 16]) {
     if let Answer::Refused(why) = order(starts, ends, steps) {
-        printing::refused(why);
+        printing::refused(rt, why);
         return;
     }
     let mut sums = [0u64; 3];
     if places[NUMBERS] == 0 {
-        if from_arguments(starts, ends, steps, places, &mut sums) {
-            ended(places, &sums);
+        if from_arguments(rt, starts, ends, steps, places, &mut sums) {
+            ended(rt, places, &sums);
         }
-    } else if from_lines(starts, ends, steps, places, &mut sums) {
-        ended(places, &sums);
+    } else if from_lines(rt, starts, ends, steps, places, &mut sums) {
+        ended(rt, places, &sums);
     }
 }

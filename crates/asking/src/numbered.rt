@@ -1,29 +1,31 @@
 // The numbers that `find` is asked about: those among the arguments, or those in a file, one a line.
 use crate::finding::{CARRIED_SUM, FILLED_SUM, answered, headed};
 use crate::opening;
+use crate::opening::Source;
 use telling::wrong;
-use words::arguments;
 use words::lines::{number, split};
 use words::numbers::Signed;
 use words::places::{FILE, NUMBERS};
+use words::{arguments, argv};
 
 // Answers the numbers among the arguments. Answers whether all were.
 pub fn from_arguments(
+    rt: &HostRuntime,
     starts: &[i64],
     ends: &[u64],
     steps: &[i16],
     places: &[usize; 16],
     sums: &mut [u64; 3],
 ) -> bool {
-    if !headed(places) {
+    if !headed(rt, places) {
         return false;
     }
-    let count = os::arg_count();
+    let count = argv::count(rt);
     let mut i = 2;
     while i < count {
         let mut numbers = [0i64; 512];
-        let batch = arguments::numbers(places[FILE], i, &mut numbers);
-        if !answered(starts, ends, steps, &numbers, batch.count, places, sums) {
+        let batch = arguments::numbers(rt, places[FILE], i, &mut numbers);
+        if !answered(rt, starts, ends, steps, &numbers, batch.count, places, sums) {
             return false;
         }
         let next = batch.next;
@@ -37,24 +39,25 @@ pub fn from_arguments(
 }
 
 // The last lines where line i is no number.
-pub fn show_line(line: &[u8; 64], held: usize, i: u64) {
+pub fn show_line(rt: &HostRuntime, line: &[u8; 64], held: usize, i: u64) {
     let view: &[u8] = line;
     if held < 64 {
-        wrong::line(i, &view[..held]);
+        wrong::line(rt, i, &view[..held]);
     } else {
-        wrong::line(i, view);
+        wrong::line(rt, i, view);
     }
 }
 
 // The last lines where the line after those that were answered is no number. Answers that not all were.
-fn no_number(line: &[u8; 64], held: usize, sums: &[u64; 3]) -> bool {
+fn no_number(rt: &HostRuntime, line: &[u8; 64], held: usize, sums: &[u64; 3]) -> bool {
     let answered = std::num::wrapping_add_u64(sums[CARRIED_SUM], sums[FILLED_SUM]);
-    show_line(line, held, std::num::wrapping_add_u64(answered, 1));
+    show_line(rt, line, held, std::num::wrapping_add_u64(answered, 1));
     false
 }
 
 // Answers the number on a last line that has no line end.
 fn last(
+    rt: &HostRuntime,
     starts: &[i64],
     ends: &[u64],
     steps: &[i16],
@@ -67,10 +70,10 @@ fn last(
         return true;
     }
     match number(line, held) {
-        Signed::Not => no_number(line, held, sums),
+        Signed::Not => no_number(rt, line, held, sums),
         Signed::Is(k) => {
             let numbers = [k; 512];
-            answered(starts, ends, steps, &numbers, 1, places, sums)
+            answered(rt, starts, ends, steps, &numbers, 1, places, sums)
         }
     }
 }
@@ -85,32 +88,31 @@ enum Chunk {
 
 // Answers the numbers of a chunk.
 fn turn(
+    rt: &HostRuntime,
     starts: &[i64],
     ends: &[u64],
     steps: &[i16],
     places: &[usize; 16],
-    fd: i32,
+    source: &mut Source,
     line: &mut [u8; 64],
     held: &mut usize,
     sums: &mut [u64; 3],
 ) -> Chunk {
     let mut chunk = [0u8; 512];
-    let got = opening::read_some(fd, &mut chunk);
-    if got < 0 {
+    let Some(n) = opening::read_some(rt, source, &mut chunk) else {
         return Chunk::Stopped;
-    }
-    let n = io::count(got, &chunk);
+    };
     if n == 0 {
         return Chunk::End;
     }
     let mut numbers = [0i64; 512];
     let lines = split(&chunk, n, line, *held, &mut numbers);
     *held = lines.held;
-    if !answered(starts, ends, steps, &numbers, lines.count, places, sums) {
+    if !answered(rt, starts, ends, steps, &numbers, lines.count, places, sums) {
         return Chunk::Stopped;
     }
     if lines.wrong {
-        no_number(line, lines.held, sums);
+        no_number(rt, line, lines.held, sums);
         return Chunk::Stopped;
     }
     Chunk::More
@@ -118,26 +120,36 @@ fn turn(
 
 // Answers the numbers of a file, whatever its length: a proved loop has to end, and nothing says that the file does, so it counts its turns.
 pub fn from_lines(
+    rt: &HostRuntime,
     starts: &[i64],
     ends: &[u64],
     steps: &[i16],
     places: &[usize; 16],
     sums: &mut [u64; 3],
 ) -> bool {
-    let fd = opening::open(places[NUMBERS], true);
-    if fd < 0 {
+    let Some(mut source) = opening::open(rt, places[NUMBERS], true) else {
         return false;
-    }
-    if !headed(places) {
+    };
+    if !headed(rt, places) {
         return false;
     }
     let mut line = [0u8; 64];
     let mut held = 0;
     let mut turns = u64::MAX;
     while turns > 0 {
-        match turn(starts, ends, steps, places, fd, &mut line, &mut held, sums) {
+        match turn(
+            rt,
+            starts,
+            ends,
+            steps,
+            places,
+            &mut source,
+            &mut line,
+            &mut held,
+            sums,
+        ) {
             Chunk::Stopped => return false,
-            Chunk::End => return last(starts, ends, steps, places, &line, held, sums),
+            Chunk::End => return last(rt, starts, ends, steps, places, &line, held, sums),
             Chunk::More => {}
         }
         turns -= 1;

@@ -23,6 +23,7 @@ pub struct Row {
 
 // Writes a range: these are the logs that follow those which were written before.
 fn put_range(
+    rt: &HostRuntime,
     starts: &[i64],
     ends: &[u64],
     steps: &[i16],
@@ -36,7 +37,16 @@ fn put_range(
     if row.n == 0 {
         return row.at;
     }
-    rows::range(form, row.done == 0, row.first, row.last, row.n, buf, row.at)
+    rows::range(
+        rt,
+        form,
+        row.done == 0,
+        row.first,
+        row.last,
+        row.n,
+        buf,
+        row.at,
+    )
 }
 
 // Whether a log goes on where a range of n logs ends.
@@ -54,6 +64,7 @@ fn goes_on(n: u64, last: u64, k: u64) -> bool
 
 // One log more: it goes on where the range ends, or begins one. There are no more than records before the piece's end.
 fn one_more(
+    rt: &HostRuntime,
     starts: &[i64],
     ends: &[u64],
     steps: &[i16],
@@ -80,7 +91,7 @@ fn one_more(
             at: row.at,
         };
     }
-    let at = put_range(starts, ends, steps, asked, row, form, buf);
+    let at = put_range(rt, starts, ends, steps, asked, row, form, buf);
     Row {
         done: row.done + row.n,
         first: k,
@@ -92,6 +103,7 @@ fn one_more(
 
 // The logs of a piece.
 fn take_all(
+    rt: &HostRuntime,
     starts: &[i64],
     ends: &[u64],
     steps: &[i16],
@@ -111,7 +123,9 @@ fn take_all(
     let mut row = before;
     let mut i = 0;
     while i < list.len() {
-        row = one_more(starts, ends, steps, asked, row, list[i], stop, form, buf);
+        row = one_more(
+            rt, starts, ends, steps, asked, row, list[i], stop, form, buf,
+        );
         i += 1;
     }
     row
@@ -119,6 +133,7 @@ fn take_all(
 
 // A piece, listed.
 fn piece(
+    rt: &HostRuntime,
     starts: &[i64],
     ends: &[u64],
     steps: &[i16],
@@ -149,6 +164,7 @@ fn piece(
     ) {
         Listed::Refused(_) => row,
         Listed::Records(n) => take_all(
+            rt,
             starts,
             ends,
             steps,
@@ -164,6 +180,7 @@ fn piece(
 
 // The last range: with it all logs of the window are written.
 fn put_last(
+    rt: &HostRuntime,
     starts: &[i64],
     ends: &[u64],
     steps: &[i16],
@@ -175,11 +192,12 @@ fn put_last(
     requires range { Range (logs_of asked (sequence_of (column_now starts ends steps))) row }
     requires n_value { row.done + row.n ≡ length (logs_of asked (sequence_of (column_now starts ends steps))) }
 {
-    put_range(starts, ends, steps, asked, row, form, buf)
+    put_range(rt, starts, ends, steps, asked, row, form, buf)
 }
 
 // All of the window's, from a place of the buffer on.
 pub(crate) fn ranges(
+    rt: &HostRuntime,
     starts: &[i64],
     ends: &[u64],
     steps: &[i16],
@@ -201,8 +219,8 @@ pub(crate) fn ranges(
     let mut at = asked.start;
     while at < end {
         let stop = piece_end(at, end);
-        row = piece(starts, ends, steps, asked, at, stop, row, form, buf);
+        row = piece(rt, starts, ends, steps, asked, at, stop, row, form, buf);
         at = stop;
     }
-    put_last(starts, ends, steps, asked, row, form, buf)
+    put_last(rt, starts, ends, steps, asked, row, form, buf)
 }

@@ -5,6 +5,7 @@ use reporting::picture::{Strip, closed, column_end, columns, drawn, none, opened
 
 // One column more, of so many records.
 fn column(
+    rt: &HostRuntime,
     starts: &[i64],
     ends: &[u64],
     steps: &[i16],
@@ -21,7 +22,7 @@ fn column(
     if next == strip.shade {
         return strip;
     }
-    let at = drawn(strip, x, buf);
+    let at = drawn(rt, strip, x, buf);
     Strip {
         from: x,
         shade: next,
@@ -31,6 +32,7 @@ fn column(
 
 // The columns: those that are left share what is left of the window, so that none differs from another by more than a record.
 fn strips(
+    rt: &HostRuntime,
     starts: &[i64],
     ends: &[u64],
     steps: &[i16],
@@ -55,15 +57,16 @@ fn strips(
             start: from,
             end: to,
         };
-        strip = column(starts, ends, steps, part, x, strip, buf);
+        strip = column(rt, starts, ends, steps, part, x, strip, buf);
         from = to;
         x += 1;
     }
-    drawn(strip, all, buf)
+    drawn(rt, strip, all, buf)
 }
 
 // The picture, its axis and its legend. A window without records has none.
 pub fn picture(
+    rt: &HostRuntime,
     starts: &[i64],
     ends: &[u64],
     steps: &[i16],
@@ -73,9 +76,9 @@ pub fn picture(
 ) -> usize {
     let many = size(asked.start, asked.end);
     if many == 0 {
-        return none(buf, at);
+        return none(rt, buf, at);
     }
-    let a = opened(many, buf, at);
-    let b = strips(starts, ends, steps, asked, buf, a);
-    closed(asked.start, asked.end, many, buf, b)
+    let a = opened(rt, many, buf, at);
+    let b = strips(rt, starts, ends, steps, asked, buf, a);
+    closed(rt, asked.start, asked.end, many, buf, b)
 }

@@ -11,6 +11,7 @@ ghost use Rattle.exporting.specs.Export.{exported_bytes};
 
 use crate::stored::stored;
 use asking::opening;
+use asking::opening::Source;
 use exporting::{Exported, export};
 use record::Written;
 use telling::printing;
@@ -20,51 +21,57 @@ use words::places::{FILE, RECORDS};
 pub mod stored;
 
 // Writes a record: that of the column of these records, and nothing else.
-fn put_record(made: &[u8], bytes: &[u8], count: u64)
+fn put_record(rt: &HostRuntime, made: &[u8], bytes: &[u8], count: u64)
     requires { made.now ≡ record_of (imported_column bytes.now count) }
 {
-    printing::text(made);
+    printing::text(rt, made);
 }
 
 // The largest record has 57,350 bytes.
-fn from_bitmap(bytes: &[u8], count: u64) {
+fn from_bitmap(rt: &HostRuntime, bytes: &[u8], count: u64) {
     let mut out = [0u8; 57350];
     match stored(bytes, count, &mut out) {
-        Written::Refused(why) => printing::refused(why),
-        Written::Bytes(n) => put_record(&out[..n], bytes, count),
+        Written::Refused(why) => printing::refused(rt, why),
+        Written::Bytes(n) => put_record(rt, &out[..n], bytes, count),
     }
 }
 
 // A bitmap of as many records as there may be has 65,536 bytes; what a file has beyond is not read. A read that ends early may have failed, as that
 // of a folder does: one more tells.
-fn from_file(fd: i32, count: u64) {
+fn from_file(rt: &HostRuntime, source: &mut Source, count: u64) {
     let mut bytes = [0u8; 65536];
-    let n = io::read_full(fd, &mut bytes);
+    let n = opening::read_full(rt, source, &mut bytes);
     let mut next = [0u8; 1];
-    if opening::read_some(fd, &mut next) < 0 {
+    if opening::read_some(rt, source, &mut next).is_none() {
         return;
     }
-    from_bitmap(&bytes[..n], count);
+    from_bitmap(rt, &bytes[..n], count);
 }
 
-pub fn import_file(places: &[usize; 16]) {
-    let fd = opening::open(places[FILE], false);
-    if 0 <= fd {
-        from_file(fd, natural(places[RECORDS]));
+pub fn import_file(rt: &HostRuntime, places: &[usize; 16]) {
+    if let Some(mut source) = opening::open(rt, places[FILE], false) {
+        from_file(rt, &mut source, natural(rt, places[RECORDS]));
     }
 }
 
 // Writes a bitmap: that of this column among so many records, and nothing else.
-fn put_bitmap(bitmap: &[u8], starts: &[i64], ends: &[u64], steps: &[i16], count: u64)
+fn put_bitmap(
+    rt: &HostRuntime,
+    bitmap: &[u8],
+    starts: &[i64],
+    ends: &[u64],
+    steps: &[i16],
+    count: u64,
+)
     requires { bitmap.now ≡ exported_bytes (source_of (column_now starts ends steps)) count }
 {
-    printing::text(bitmap);
+    printing::text(rt, bitmap);
 }
 
-pub fn export_column(starts: &[i64], ends: &[u64], steps: &[i16], count: u64) {
+pub fn export_column(rt: &HostRuntime, starts: &[i64], ends: &[u64], steps: &[i16], count: u64) {
     let mut out = [0u8; 65536];
     match export(starts, ends, steps, count, &mut out) {
-        Exported::Refused(why) => printing::refused(why),
-        Exported::Bytes(n) => put_bitmap(&out[..n], starts, ends, steps, count),
+        Exported::Refused(why) => printing::refused(rt, why),
+        Exported::Bytes(n) => put_bitmap(rt, &out[..n], starts, ends, steps, count),
     }
 }

@@ -1,7 +1,7 @@
 -- What the inner functions tell each other: the first of the rule's runs from an index on. No promise of a public call names it.
 -- Assumes nothing.
 use Rattle.std.specs.Prelude.{ℕ, suc, ◌-◌, ◌≤◌, List, length, drop, ℤ, pos, slice_index_or}
-use Rattle.std.specs.Borrow.{Bor}
+use Rattle.std.specs.Borrow.{Bor, MutBor}
 use Rattle.keys.specs.Key.{key}
 use Rattle.keys.specs.Widths.{half64}
 use Rattle.build.specs.Rule.{Run, begun, runs_from, runs_of}
@@ -26,5 +26,5 @@ abbrev pub Inside : ℤ → Type 0
 Inside v = (4611686018427387904 ≤ key half64 v) × (key half64 v ≤ 13835058055282163712)
 
 -- a place for each run in the three arrays
-abbrev pub RoomFor : Bor (List ℤ) → Bor (List ℤ) → Bor (List ℕ) → Bor (List ℤ) → Type 0
+abbrev pub RoomFor : Bor (List ℤ) → MutBor (List ℤ) → MutBor (List ℕ) → MutBor (List ℤ) → Type 0
 RoomFor values starts ends steps = (length (runs_of values.now) ≤ length starts.now) × (length (runs_of values.now) ≤ length ends.now) × (length (runs_of values.now) ≤ length steps.now)

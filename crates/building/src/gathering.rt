@@ -1,6 +1,7 @@
 // The numbers of a file, one a line, held together: runs are built from a whole list.
 use asking::numbered::show_line;
 use asking::opening;
+use asking::opening::Source;
 use telling::printing;
 use words::lines::{number, split};
 use words::numbers::Signed;
@@ -9,24 +10,33 @@ use words::numbers::Signed;
 pub const MOST: usize = 524288;
 
 // The last lines where a file has more. Answers what stands for a list that is not whole.
-fn too_many() -> usize {
-    printing::message(b"loftsplice: over 524,288 numbers are not held\ntoo many numbers\n");
+fn too_many(rt: &HostRuntime) -> usize {
+    printing::message(
+        rt,
+        b"loftsplice: over 524,288 numbers are not held\ntoo many numbers\n",
+    );
     MOST + 1
 }
 
 // The last lines where the line after the first so many is no number.
-fn no_number(line: &[u8; 64], held: usize, before: usize) -> usize {
-    show_line(line, held, std::num::wrapping_add_u64(before as u64, 1));
+fn no_number(rt: &HostRuntime, line: &[u8; 64], held: usize, before: usize) -> usize {
+    show_line(rt, line, held, std::num::wrapping_add_u64(before as u64, 1));
     MOST + 1
 }
 
 // The first so many numbers behind those that are held. Answers how many are held then; over MOST where there is no room.
-fn kept(numbers: &[i64; 512], n: usize, values: &mut [i64], count: usize) -> usize {
+fn kept(
+    rt: &HostRuntime,
+    numbers: &[i64; 512],
+    n: usize,
+    values: &mut [i64],
+    count: usize,
+) -> usize {
     let mut at = count;
     let mut i = 0;
     while i < 512 && i < n {
         if values.len() <= at {
-            return too_many();
+            return too_many(rt);
         }
         values[at] = numbers[i];
         at += 1;
@@ -36,13 +46,13 @@ fn kept(numbers: &[i64; 512], n: usize, values: &mut [i64], count: usize) -> usi
 }
 
 // What a last line without a line end adds.
-fn last(line: &[u8; 64], held: usize, values: &mut [i64], count: usize) -> usize {
+fn last(rt: &HostRuntime, line: &[u8; 64], held: usize, values: &mut [i64], count: usize) -> usize {
     if held == 0 {
         return count;
     }
     match number(line, held) {
-        Signed::Not => no_number(line, held, count),
-        Signed::Is(k) => kept(&[k; 512], 1, values, count),
+        Signed::Not => no_number(rt, line, held, count),
+        Signed::Is(k) => kept(rt, &[k; 512], 1, values, count),
     }
 }
 
@@ -54,26 +64,31 @@ struct Chunk {
 }
 
 // Holds the numbers of a chunk; after the end those of the last line.
-fn turn(fd: i32, line: &mut [u8; 64], held: &mut usize, values: &mut [i64], count: usize) -> Chunk {
+fn turn(
+    rt: &HostRuntime,
+    source: &mut Source,
+    line: &mut [u8; 64],
+    held: &mut usize,
+    values: &mut [i64],
+    count: usize,
+) -> Chunk {
     let mut chunk = [0u8; 512];
-    let got = opening::read_some(fd, &mut chunk);
-    if got < 0 {
+    let Some(n) = opening::read_some(rt, source, &mut chunk) else {
         return Chunk {
             count: MOST + 1,
             more: false,
         };
-    }
-    let n = io::count(got, &chunk);
+    };
     if n == 0 {
         return Chunk {
-            count: last(line, *held, values, count),
+            count: last(rt, line, *held, values, count),
             more: false,
         };
     }
     let mut numbers = [0i64; 512];
     let lines = split(&chunk, n, line, *held, &mut numbers);
     *held = lines.held;
-    let sum = kept(&numbers, lines.count, values, count);
+    let sum = kept(rt, &numbers, lines.count, values, count);
     if MOST < sum {
         return Chunk {
             count: sum,
@@ -82,7 +97,7 @@ fn turn(fd: i32, line: &mut [u8; 64], held: &mut usize, values: &mut [i64], coun
     }
     if lines.wrong {
         return Chunk {
-            count: no_number(line, lines.held, sum),
+            count: no_number(rt, line, lines.held, sum),
             more: false,
         };
     }
@@ -94,13 +109,13 @@ fn turn(fd: i32, line: &mut [u8; 64], held: &mut usize, values: &mut [i64], coun
 
 // The numbers of a file, and how many; over MOST, after the last line, where not all are held. A proved loop has to end, and nothing says that the
 // file does: it counts its turns.
-pub fn gathered(fd: i32, values: &mut [i64]) -> usize {
+pub fn gathered(rt: &HostRuntime, source: &mut Source, values: &mut [i64]) -> usize {
     let mut line = [0u8; 64];
     let mut held = 0;
     let mut count = 0;
     let mut turns = u64::MAX;
     while turns > 0 {
-        let chunk = turn(fd, &mut line, &mut held, values, count);
+        let chunk = turn(rt, source, &mut line, &mut held, values, count);
         count = chunk.count;
         if !chunk.more {
             return count;

@@ -1,7 +1,7 @@
 -- How a contract names what a listing is lent, and what it says and leaves there: references, read at the call's entry. Assumes nothing.
 use Rattle.std.specs.Prelude.{ℕ, List, ℤ}
 use denote.Triple.Both.{Both}
-use Rattle.std.specs.Borrow.{Bor}
+use Rattle.std.specs.Borrow.{Bor, MutBor}
 use Rattle.meaning.specs.Refusals.{Said}
 use Rattle.meaning.specs.Sequence.{Source}
 use Rattle.meaning.specs.Outputs.{after}
@@ -14,7 +14,7 @@ module _ {A B C D E F : Type 0} where
   request from to mode lows low_kinds ups up_kinds =
       record { from = from.entry.now; to = to.entry.now; mode = mode; lows = lows.entry.now; low_kinds = low_kinds.entry.now; ups = ups.entry.now; up_kinds = up_kinds.entry.now }
 
-module _ {X Y : Type 0} (p : Source) (k : Request) (out : Both (Bor (List ℤ)) X) (counts : Both (Bor (List ℕ)) Y) where
+module _ {X Y : Type 0} (p : Source) (k : Request) (out : Both (MutBor (List ℤ)) X) (counts : Both (MutBor (List ℕ)) Y) where
   -- what is said
   abbrev pub list_says : Said ℕ
   list_says = ask_list k p out.entry.now counts.entry.now

@@ -12,20 +12,20 @@ use words::numbers::Signed;
 use words::places::{ABOVE, BELOW, END, FORMAT, FROM, START, TO};
 
 // The bound whose value argument i has.
-fn bound(boundary: BoundaryType, i: usize) -> Limit {
-    match signed(i) {
+fn bound(rt: &HostRuntime, boundary: BoundaryType, i: usize) -> Limit {
+    match signed(rt, i) {
         Signed::Not => Limit::Free,
         Signed::Is(value) => Limit::To(Bound { boundary, value }),
     }
 }
 
 // The bound that is given, by the places of its inclusive and its exclusive word.
-fn limit(inclusive: usize, exclusive: usize) -> Limit {
+fn limit(rt: &HostRuntime, inclusive: usize, exclusive: usize) -> Limit {
     if inclusive != 0 {
-        return bound(BoundaryType::Inclusive, inclusive);
+        return bound(rt, BoundaryType::Inclusive, inclusive);
     }
     if exclusive != 0 {
-        return bound(BoundaryType::Exclusive, exclusive);
+        return bound(rt, BoundaryType::Exclusive, exclusive);
     }
     Limit::Free
 }
@@ -75,6 +75,7 @@ enum Part {
 
 // Lists and prints a piece, with the byte that stands before its first element.
 fn piece(
+    rt: &HostRuntime,
     starts: &[i64],
     ends: &[u64],
     steps: &[i16],
@@ -101,14 +102,14 @@ fn piece(
         &mut counts,
     ) {
         Listed::Refused(why) => {
-            printing::refused(why);
+            printing::refused(rt, why);
             Part::Stopped
         }
         Listed::Sum(sum) => {
             if sum == 0 {
                 return Part::Empty;
             }
-            if printing::values(&out, sum, lead) {
+            if printing::values(rt, &out, sum, lead) {
                 return Part::Printed;
             }
             Part::Stopped
@@ -118,6 +119,7 @@ fn piece(
 
 // Part by piece, from an index on.
 fn pieces(
+    rt: &HostRuntime,
     starts: &[i64],
     ends: &[u64],
     steps: &[i16],
@@ -131,7 +133,7 @@ fn pieces(
     let mut before = lead(form);
     while at < end {
         let stop = piece_end(at, end);
-        match piece(starts, ends, steps, at, stop, lower, upper, before) {
+        match piece(rt, starts, ends, steps, at, stop, lower, upper, before) {
             Part::Stopped => return,
             Part::Empty => break,
             Part::Printed => {}
@@ -139,12 +141,13 @@ fn pieces(
         before = next(before);
         at = stop;
     }
-    closed(before);
+    closed(rt, before);
 }
 
 // From the first element of the scan's window that is not below the lower bound's value. The seek also refuses a window that doesn't rise,
 // the whole of it, before anything is printed.
 fn from_scan(
+    rt: &HostRuntime,
     starts: &[i64],
     ends: &[u64],
     steps: &[i16],
@@ -158,20 +161,30 @@ fn from_scan(
     let answer = moved.answer;
     let found = moved.scan;
     if let Answer::Refused(why) = answer {
-        printing::refused(why);
+        printing::refused(rt, why);
         return;
     }
-    if !said(form, b"", b"element\n", b"") {
+    if !said(rt, form, b"", b"element\n", b"") {
         return;
     }
     match found.pos(starts, ends, steps) {
-        Position::Refused(why) => printing::refused(why),
+        Position::Refused(why) => printing::refused(rt, why),
         Position::None => {
-            closed(lead(form));
+            closed(rt, lead(form));
         }
         Position::Index(first) => {
             let low = listed(lower);
-            pieces(starts, ends, steps, first, end, low, listed(upper), form);
+            pieces(
+                rt,
+                starts,
+                ends,
+                steps,
+                first,
+                end,
+                low,
+                listed(upper),
+                form,
+            );
         }
     }
 }
@@ -188,24 +201,44 @@ fn narrowed(starts: &[i64], ends: &[u64], steps: &[i16], scan: Scan, start: u64,
 }
 
 // The whole column, or the window that two arguments give.
-fn window(starts: &[i64], ends: &[u64], steps: &[i16], start: usize, end: usize) -> Made {
+fn window(
+    rt: &HostRuntime,
+    starts: &[i64],
+    ends: &[u64],
+    steps: &[i16],
+    start: usize,
+    end: usize,
+) -> Made {
     match Scan::new(starts, ends, steps) {
         Made::Refused(why) => Made::Refused(why),
         Made::Ready(scan) => {
             if start == 0 {
                 return Made::Ready(scan);
             }
-            narrowed(starts, ends, steps, scan, natural(start), natural(end))
+            narrowed(
+                starts,
+                ends,
+                steps,
+                scan,
+                natural(rt, start),
+                natural(rt, end),
+            )
         }
     }
 }
 
-pub fn list_window(starts: &[i64], ends: &[u64], steps: &[i16], places: &[usize; 16]) {
+pub fn list_window(
+    rt: &HostRuntime,
+    starts: &[i64],
+    ends: &[u64],
+    steps: &[i16],
+    places: &[usize; 16],
+) {
     let form = places[FORMAT];
-    let lower = limit(places[FROM], places[ABOVE]);
-    let upper = limit(places[TO], places[BELOW]);
-    match window(starts, ends, steps, places[START], places[END]) {
-        Made::Refused(why) => printing::refused(why),
-        Made::Ready(scan) => from_scan(starts, ends, steps, scan, lower, upper, form),
+    let lower = limit(rt, places[FROM], places[ABOVE]);
+    let upper = limit(rt, places[TO], places[BELOW]);
+    match window(rt, starts, ends, steps, places[START], places[END]) {
+        Made::Refused(why) => printing::refused(rt, why),
+        Made::Ready(scan) => from_scan(rt, starts, ends, steps, scan, lower, upper, form),
     }
 }

@@ -11,20 +11,20 @@ mod checking;
 mod listing;
 mod reading;
 
-fn main() {
+fn main(rt: HostRuntime) {
     let mut places = [0usize; 16];
-    let command = arguments::given(&mut places);
+    let command = arguments::given(&rt, &mut places);
     if let Command::Wrong = command {
-        wrong::usage(places[WRONG], places[WANTED]);
+        wrong::usage(&rt, places[WRONG], places[WANTED]);
         return;
     }
     if let Command::Build = command {
-        building::build(&places);
+        building::build(&rt, &places);
         return;
     }
     if let Command::Import = command {
-        bitmap_files::import_file(&places);
+        bitmap_files::import_file(&rt, &places);
         return;
     }
-    reading::from_file(command, &places);
+    reading::from_file(&rt, command, &places);
 }

@@ -4,7 +4,7 @@
 mod built;
 mod mapped;
 
-fn main() {
-    built::all();
-    mapped::all();
+fn main(rt: HostRuntime) {
+    built::all(&rt);
+    mapped::all(&rt);
 }

@@ -3,6 +3,6 @@
 
 mod run_only;
 
-fn main() {
-    run_only::all();
+fn main(rt: HostRuntime) {
+    run_only::all(&rt);
 }

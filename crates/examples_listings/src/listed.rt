@@ -2,9 +2,10 @@
 use crate::listing::*;
 use shown::text;
 
-fn on_c(v: &[i64], e: &[u64], d: &[i16]) {
-    line(v, e, d, 1, [0, 0, 0, 0], [9, 0, 0, 0], none(), none());
+fn on_c(rt: &HostRuntime, v: &[i64], e: &[u64], d: &[i16]) {
+    line(rt, v, e, d, 1, [0, 0, 0, 0], [9, 0, 0, 0], none(), none());
     line(
+        rt,
         v,
         e,
         d,
@@ -15,6 +16,7 @@ fn on_c(v: &[i64], e: &[u64], d: &[i16]) {
         inclusive(40),
     );
     line(
+        rt,
         v,
         e,
         d,
@@ -24,10 +26,21 @@ fn on_c(v: &[i64], e: &[u64], d: &[i16]) {
         both(25),
         inclusive(140),
     );
-    line(v, e, d, 2, [0, 0, 0, 0], [9, 9, 0, 0], none(), both(15));
-    strict(v, e, d, 2, [0, 0, 0, 0], [9, 9, 0, 0], none(), both(15));
-    strict(v, e, d, 1, [0, 0, 0, 0], [9, 0, 0, 0], both(15), both(40));
+    line(rt, v, e, d, 2, [0, 0, 0, 0], [9, 9, 0, 0], none(), both(15));
+    strict(rt, v, e, d, 2, [0, 0, 0, 0], [9, 9, 0, 0], none(), both(15));
+    strict(
+        rt,
+        v,
+        e,
+        d,
+        1,
+        [0, 0, 0, 0],
+        [9, 0, 0, 0],
+        both(15),
+        both(40),
+    );
     line(
+        rt,
         v,
         e,
         d,
@@ -37,12 +50,23 @@ fn on_c(v: &[i64], e: &[u64], d: &[i16]) {
         inclusive(31),
         exclusive(240),
     );
-    line(v, e, d, 0, [0, 0, 0, 0], [0, 0, 0, 0], exclusive(0), none());
+    line(
+        rt,
+        v,
+        e,
+        d,
+        0,
+        [0, 0, 0, 0],
+        [0, 0, 0, 0],
+        exclusive(0),
+        none(),
+    );
 }
 
-fn on_d(v: &[i64], e: &[u64], d: &[i16]) {
-    line(v, e, d, 4, [1, 1, 2, 0], [5, 5, 4, 1], none(), none());
+fn on_d(rt: &HostRuntime, v: &[i64], e: &[u64], d: &[i16]) {
+    line(rt, v, e, d, 4, [1, 1, 2, 0], [5, 5, 4, 1], none(), none());
     line(
+        rt,
         v,
         e,
         d,
@@ -52,13 +76,14 @@ fn on_d(v: &[i64], e: &[u64], d: &[i16]) {
         exclusive(5),
         exclusive(8),
     );
-    line(v, e, d, 2, [1, 0, 0, 0], [5, 2, 0, 0], none(), none());
-    line(v, e, d, 2, [0, 1, 0, 0], [5, 6, 0, 0], none(), none());
+    line(rt, v, e, d, 2, [1, 0, 0, 0], [5, 2, 0, 0], none(), none());
+    line(rt, v, e, d, 2, [0, 1, 0, 0], [5, 6, 0, 0], none(), none());
 }
 
 // With room for 10 values, and for 9.
-fn room(v: &[i64], e: &[u64], d: &[i16]) {
+fn room(rt: &HostRuntime, v: &[i64], e: &[u64], d: &[i16]) {
     within(
+        rt,
         v,
         e,
         d,
@@ -72,6 +97,7 @@ fn room(v: &[i64], e: &[u64], d: &[i16]) {
         2,
     );
     within(
+        rt,
         v,
         e,
         d,
@@ -87,8 +113,9 @@ fn room(v: &[i64], e: &[u64], d: &[i16]) {
 }
 
 // With a place for one count: 5 and 7 are tried before 10.
-fn places(v: &[i64], e: &[u64], d: &[i16]) {
+fn places(rt: &HostRuntime, v: &[i64], e: &[u64], d: &[i16]) {
     within(
+        rt,
         v,
         e,
         d,
@@ -102,6 +129,7 @@ fn places(v: &[i64], e: &[u64], d: &[i16]) {
         1,
     );
     within(
+        rt,
         v,
         e,
         d,
@@ -115,6 +143,7 @@ fn places(v: &[i64], e: &[u64], d: &[i16]) {
         1,
     );
     within(
+        rt,
         v,
         e,
         d,
@@ -128,6 +157,7 @@ fn places(v: &[i64], e: &[u64], d: &[i16]) {
         1,
     );
     within(
+        rt,
         v,
         e,
         d,
@@ -143,8 +173,9 @@ fn places(v: &[i64], e: &[u64], d: &[i16]) {
 }
 
 // Starts without an end, 17 bounds and 16, 256 windows, each empty, and one more.
-fn limits(v: &[i64], e: &[u64], d: &[i16]) {
+fn limits(rt: &HostRuntime, v: &[i64], e: &[u64], d: &[i16]) {
     within(
+        rt,
         v,
         e,
         d,
@@ -157,14 +188,35 @@ fn limits(v: &[i64], e: &[u64], d: &[i16]) {
         16,
         8,
     );
-    line(v, e, d, 1, [0, 0, 0, 0], [10, 0, 0, 0], so_many(17), none());
-    line(v, e, d, 1, [0, 0, 0, 0], [10, 0, 0, 0], so_many(16), none());
-    many(v, e, d, 256, 0, 256);
-    many(v, e, d, 257, 10, 1);
+    line(
+        rt,
+        v,
+        e,
+        d,
+        1,
+        [0, 0, 0, 0],
+        [10, 0, 0, 0],
+        so_many(17),
+        none(),
+    );
+    line(
+        rt,
+        v,
+        e,
+        d,
+        1,
+        [0, 0, 0, 0],
+        [10, 0, 0, 0],
+        so_many(16),
+        none(),
+    );
+    many(rt, v, e, d, 256, 0, 256);
+    many(rt, v, e, d, 257, 10, 1);
 }
 
-fn far(v: &[i64], e: &[u64], d: &[i16]) {
+fn far(rt: &HostRuntime, v: &[i64], e: &[u64], d: &[i16]) {
     line(
+        rt,
         v,
         e,
         d,
@@ -175,6 +227,7 @@ fn far(v: &[i64], e: &[u64], d: &[i16]) {
         inclusive(9223372036854775807),
     );
     line(
+        rt,
         v,
         e,
         d,
@@ -186,12 +239,13 @@ fn far(v: &[i64], e: &[u64], d: &[i16]) {
     );
 }
 
-fn damaged(v: &[i64], e: &[u64], d: &[i16]) {
-    line(v, e, d, 1, [0, 0, 0, 0], [99, 0, 0, 0], none(), none());
+fn damaged(rt: &HostRuntime, v: &[i64], e: &[u64], d: &[i16]) {
+    line(rt, v, e, d, 1, [0, 0, 0, 0], [99, 0, 0, 0], none(), none());
 }
 
 // By document 01's columns C and D.
 fn on_both(
+    rt: &HostRuntime,
     starts: &[i64],
     ends: &[u64],
     steps: &[i16],
@@ -199,19 +253,20 @@ fn on_both(
     d_ends: &[u64],
     d_steps: &[i16],
 ) {
-    text(b"C\n");
-    on_c(starts, ends, steps);
-    text(b"D\n");
-    on_d(d_starts, d_ends, d_steps);
-    text(b"room\n");
-    room(starts, ends, steps);
-    places(d_starts, d_ends, d_steps);
-    text(b"too many\n");
-    limits(starts, ends, steps);
+    text(rt, b"C\n");
+    on_c(rt, starts, ends, steps);
+    text(rt, b"D\n");
+    on_d(rt, d_starts, d_ends, d_steps);
+    text(rt, b"room\n");
+    room(rt, starts, ends, steps);
+    places(rt, d_starts, d_ends, d_steps);
+    text(rt, b"too many\n");
+    limits(rt, starts, ends, steps);
 }
 
-fn both_columns() {
+fn both_columns(rt: &HostRuntime) {
     on_both(
+        rt,
         &[10, 30, 31, 40],
         &[4, 5, 6, 9],
         &[5, 0, -3, 100],
@@ -222,8 +277,9 @@ fn both_columns() {
 }
 
 // From the least i64 to the greatest: distances that no i64 holds.
-fn distant() {
+fn distant(rt: &HostRuntime) {
     far(
+        rt,
         &[-9223372036854775808, 9223372036854775806],
         &[3, 5],
         &[32767, 1],
@@ -231,15 +287,15 @@ fn distant() {
 }
 
 // D with an end that does not rise.
-fn same_ends() {
-    damaged(&[10, 6], &[2, 2], &[-5, 1]);
+fn same_ends(rt: &HostRuntime) {
+    damaged(rt, &[10, 6], &[2, 2], &[-5, 1]);
 }
 
-pub fn all() {
-    text(b"== listed\n");
-    both_columns();
-    text(b"far\n");
-    distant();
-    text(b"damaged\n");
-    same_ends();
+pub fn all(rt: &HostRuntime) {
+    text(rt, b"== listed\n");
+    both_columns(rt);
+    text(rt, b"far\n");
+    distant(rt);
+    text(rt, b"damaged\n");
+    same_ends(rt);
 }

@@ -58,26 +58,27 @@ pub(crate) fn so_many(count: usize) -> Bounds {
     }
 }
 
-pub(crate) fn values(out: &[i64]) {
+pub(crate) fn values(rt: &HostRuntime, out: &[i64]) {
     let mut i = 0;
     while i < out.len() {
-        text(b" ");
-        shown::signed(out[i]);
+        text(rt, b" ");
+        shown::signed(rt, out[i]);
         i += 1;
     }
 }
 
-pub(crate) fn numbers(counts: &[u64]) {
+pub(crate) fn numbers(rt: &HostRuntime, counts: &[u64]) {
     let mut i = 0;
     while i < counts.len() {
-        text(b" ");
-        shown::unsigned(counts[i]);
+        text(rt, b" ");
+        shown::unsigned(rt, counts[i]);
         i += 1;
     }
 }
 
 // A listing into an output and counts, and how it leaves them.
 fn into(
+    rt: &HostRuntime,
     starts: &[i64],
     ends: &[u64],
     steps: &[i16],
@@ -89,18 +90,22 @@ fn into(
     out: &mut [i64],
     counts: &mut [u64],
 ) {
-    shown::listed(list(
-        starts, ends, steps, from, to, mode, lower, upper, out, counts,
-    ));
-    text(b" |");
-    values(out);
-    text(b" |");
-    numbers(counts);
-    text(b"\n");
+    shown::listed(
+        rt,
+        list(
+            starts, ends, steps, from, to, mode, lower, upper, out, counts,
+        ),
+    );
+    text(rt, b" |");
+    values(rt, out);
+    text(rt, b" |");
+    numbers(rt, counts);
+    text(rt, b"\n");
 }
 
 // The first n of the starts and the first m of the ends are windows; room for so many values of 16 and so many counts of 8.
 fn within_by(
+    rt: &HostRuntime,
     starts: &[i64],
     ends: &[u64],
     steps: &[i16],
@@ -119,6 +124,7 @@ fn within_by(
     let mut out = [-7i64; 16];
     let mut counts = [99u64; 8];
     into(
+        rt,
         starts,
         ends,
         steps,
@@ -134,6 +140,7 @@ fn within_by(
 
 // Where the inclusive bound wins.
 pub(crate) fn within(
+    rt: &HostRuntime,
     starts: &[i64],
     ends: &[u64],
     steps: &[i16],
@@ -150,12 +157,13 @@ pub(crate) fn within(
 {
     let mode = Mode::InclusiveWins;
     within_by(
-        starts, ends, steps, n, m, from, to, mode, lower, upper, room, places,
+        rt, starts, ends, steps, n, m, from, to, mode, lower, upper, room, places,
     );
 }
 
 // Where the exclusive bound wins, with room for all.
 pub(crate) fn strict(
+    rt: &HostRuntime,
     starts: &[i64],
     ends: &[u64],
     steps: &[i16],
@@ -169,12 +177,13 @@ pub(crate) fn strict(
 {
     let mode = Mode::ExclusiveWins;
     within_by(
-        starts, ends, steps, n, n, from, to, mode, lower, upper, 16, 8,
+        rt, starts, ends, steps, n, n, from, to, mode, lower, upper, 16, 8,
     );
 }
 
 // With room for all.
 pub(crate) fn line(
+    rt: &HostRuntime,
     starts: &[i64],
     ends: &[u64],
     steps: &[i16],
@@ -186,11 +195,19 @@ pub(crate) fn line(
 )
     requires { n ≤ 4 }
 {
-    within(starts, ends, steps, n, n, from, to, lower, upper, 16, 8);
+    within(rt, starts, ends, steps, n, n, from, to, lower, upper, 16, 8);
 }
 
 // So many windows from 7 to one end.
-pub(crate) fn many(starts: &[i64], ends: &[u64], steps: &[i16], n: usize, end: u64, places: usize)
+pub(crate) fn many(
+    rt: &HostRuntime,
+    starts: &[i64],
+    ends: &[u64],
+    steps: &[i16],
+    n: usize,
+    end: u64,
+    places: usize,
+)
     requires { (n ≤ 257) × (places ≤ 256) }
 {
     let from = [7u64; 257];
@@ -198,6 +215,7 @@ pub(crate) fn many(starts: &[i64], ends: &[u64], steps: &[i16], n: usize, end: u
     let mut out = [-7i64; 1];
     let mut counts = [99u64; 256];
     into(
+        rt,
         starts,
         ends,
         steps,

@@ -5,7 +5,7 @@ mod listed;
 mod listing;
 mod totalled;
 
-fn main() {
-    listed::all();
-    totalled::all();
+fn main(rt: HostRuntime) {
+    listed::all(&rt);
+    totalled::all(&rt);
 }

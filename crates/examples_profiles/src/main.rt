@@ -3,6 +3,6 @@
 
 mod profiled;
 
-fn main() {
-    profiled::all();
+fn main(rt: HostRuntime) {
+    profiled::all(&rt);
 }

@@ -4,6 +4,6 @@
 mod reading;
 mod stored;
 
-fn main() {
-    stored::all();
+fn main(rt: HostRuntime) {
+    stored::all(&rt);
 }

@@ -4,7 +4,7 @@
 mod lending;
 mod scanned;
 
-fn main() {
-    scanned::all();
-    lending::all();
+fn main(rt: HostRuntime) {
+    scanned::all(&rt);
+    lending::all(&rt);
 }

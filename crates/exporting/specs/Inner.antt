@@ -1,7 +1,7 @@
 -- What the inner functions of the export tell each other. No promise of a public call names it. Assumes nothing.
 use Rattle.std.specs.Prelude.{ℕ, ◌+◌, ◌*◌, ◌-◌, ◌<◌, ◌≤◌, ◌≡◌, Bool, ◌&&◌, ◌||◌, List, [], ◌∷◌, leb, ltb, length}
 use denote.Triple.Both.{Both}
-use Rattle.std.specs.Borrow.{Bor}
+use Rattle.std.specs.Borrow.{MutBor}
 use Rattle.meaning.specs.declared.Refusal.TheVariants.{Room}
 use Rattle.meaning.specs.Refusals.{Said, Gives, Number, tried}
 use Rattle.bits.specs.Bitmap.{present, bytes_for}
@@ -24,5 +24,5 @@ Inside bytes start step n = (start + step * (n - 1) < 8 * length bytes) × (star
 -- ---- the call
 
 -- what is to be said of a column that all tests before 10 have passed
-abbrev pub exporting_fit : {X : Type 0} → ℕ → Both (Bor (List ℕ)) X → Said ℕ
+abbrev pub exporting_fit : {X : Type 0} → ℕ → Both (MutBor (List ℕ)) X → Said ℕ
 exporting_fit count out = tried Number (record { why = Room; holds = ltb (length out.entry.now) (bytes_for count) } ∷ []) (Gives (bytes_for count))

@@ -1,7 +1,7 @@
 -- "If an answer is an enum, a definition states this paper's number and values for each of its cases." Assumes nothing.
 use Rattle.std.specs.Prelude.{ℕ, List, length}
 use denote.Triple.Both.{Both}
-use Rattle.std.specs.Borrow.{Bor}
+use Rattle.std.specs.Borrow.{MutBor}
 use Rattle.meaning.specs.Refusals.{Said, Gives, Number, number_of}
 use Rattle.meaning.specs.Sequence.{Source}
 use Rattle.exporting.specs.Export.{export_of}
@@ -14,5 +14,5 @@ says_exported (Bytes n) = Gives n
 says_exported (Refused why) = Number (number_of why)
 
 -- as a contract names it: what is to be said of a source, exported into this output
-abbrev pub exporting : {X : Type 0} → Source → ℕ → Both (Bor (List ℕ)) X → Said ℕ
+abbrev pub exporting : {X : Type 0} → Source → ℕ → Both (MutBor (List ℕ)) X → Said ℕ
 exporting p count out = export_of p count (length out.entry.now)

@@ -2,7 +2,7 @@
 use Rattle.std.specs.Prelude.{ℕ, Bool, cond, List, [], ◌∷◌, ◌++◌, map, ltb, ℤ, length}
 use Rattle.std.proofs.Math.Option.{Option, some, none}
 use denote.Triple.Both.{Both}
-use Rattle.std.specs.Borrow.{Bor}
+use Rattle.std.specs.Borrow.{Bor, MutBor}
 use Rattle.meaning.specs.declared.Refusal.{Refusal}
 use Rattle.meaning.specs.declared.Refusal.TheVariants.{Room}
 use Rattle.meaning.specs.Refusals.{Said, Gives, Number, also, judged}
@@ -100,7 +100,7 @@ abbrev pub filter_seek_run_out : Source → Lists → List ℤ → List ℤ → 
 filter_seek_run_out p l targets old f = after (filter_seek_run_of p l targets (length old) f).said (filter_seeks_from p.sequence l targets f).values old
 
 -- as a contract names these, of lent targets and a lent output
-module _ {A B : Type 0} (targets : Both (Bor (List ℤ)) A) (out : Both (Bor (List ℤ)) B) (p : Source) (l : Lists) (f : Filter) where
+module _ {A B : Type 0} (targets : Both (Bor (List ℤ)) A) (out : Both (MutBor (List ℤ)) B) (p : Source) (l : Lists) (f : Filter) where
   abbrev pub seek_run_at : FilterTally
   seek_run_at = filter_seek_run_of p l targets.entry.now (length out.entry.now) f
 

@@ -1,6 +1,6 @@
 -- What the inner functions of the import tell each other. No promise of a public call names it. Assumes nothing.
 use Rattle.std.specs.Prelude.{ℕ, suc, ◌+◌, ◌-◌, ◌*◌, ◌/◌, ◌%◌, ◌^◌, ◌<◌, ◌≤◌, ◌≡◌, Bool, true, List, ◌∷◌, ◌++◌, length, get_or, ℤ, pos}
-use Rattle.std.specs.Borrow.{Bor}
+use Rattle.std.specs.Borrow.{Bor, MutBor}
 use Rattle.meaning.specs.Column.{offset}
 use Rattle.meaning.specs.Parts.{each}
 use Rattle.bits.specs.Word.{window_at}
@@ -47,7 +47,7 @@ abbrev pub Kept : List ℕ → List ℤ → ℕ → Type 0
 Kept words values n = (n ≤ length words) × ((k : ℕ) → k < n → unpacked (get_or words k 0) ≡ get_or (runs_of values) k (begun (pos 0)))
 
 -- a place for each run in the three arrays
-abbrev pub RoomFor : Bor (List ℕ) → ℕ → Bor (List ℤ) → Bor (List ℕ) → Bor (List ℤ) → Type 0
+abbrev pub RoomFor : Bor (List ℕ) → ℕ → MutBor (List ℤ) → MutBor (List ℕ) → MutBor (List ℤ) → Type 0
 RoomFor bytes count starts ends steps =
     (length (runs_of (present_in bytes.now count)) ≤ length starts.now) × (length (runs_of (present_in bytes.now count)) ≤ length ends.now)
     × (length (runs_of (present_in bytes.now count)) ≤ length steps.now)

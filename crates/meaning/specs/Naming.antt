@@ -2,7 +2,7 @@
 -- call. Assumes nothing.
 use Rattle.std.specs.Prelude.{ℕ, ◌≡◌, List, ℤ}
 use denote.Triple.Both.{Both}
-use Rattle.std.specs.Borrow.{Bor}
+use Rattle.std.specs.Borrow.{Bor, MutBor}
 use Rattle.meaning.specs.Refusals.{Said}
 use Rattle.meaning.specs.Outputs.{after}
 use Rattle.meaning.specs.Sequence.{Sequence, Source}
@@ -24,5 +24,5 @@ abbrev pub column_now : Bor (List ℤ) → Bor (List ℕ) → Bor (List ℤ) →
 column_now starts ends steps = column_of starts.now ends.now steps.now
 
 -- an output after a call that says so and gives these values
-abbrev pub Leaves : {A B : Type 0} → Both (Bor (List B)) (Bor (List B)) → Said A → List B → Type 0
+abbrev pub Leaves : {A B : Type 0} → Both (MutBor (List B)) (MutBor (List B)) → Said A → List B → Type 0
 Leaves out said new = out.exit.now ≡ after said new out.entry.now

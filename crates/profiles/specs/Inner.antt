@@ -1,7 +1,7 @@
 -- What the inner functions of the profiles tell each other. No promise of a public call names it. Assumes nothing.
 use Rattle.std.specs.Prelude.{ℕ, zero, suc, ◌+◌, ◌*◌, ◌-◌, ◌≤◌, ◌<◌, min, ◌≡◌, Bool, true, false, cond, not, List, [], ◌∷◌, ◌++◌, ltb, length, get_or, ℤ, pos, nat_abs}
 use denote.Triple.Both.{Both}
-use Rattle.std.specs.Borrow.{Bor}
+use Rattle.std.specs.Borrow.{MutBor}
 use Rattle.keys.specs.Key.{key}
 use Rattle.keys.specs.Widths.{half64}
 use Rattle.meaning.specs.declared.Refusal.TheVariants.{Window, Room}
@@ -97,7 +97,7 @@ abbrev pub sought : Bool → Sequence → ℕ → Bool
 sought here q i = cond here (carries_record q i) (not (carries_record q i))
 
 -- what is to be said of a column that 16, 14, 1, 2, 3, 7 and 15 have passed
-abbrev pub listing : {X : Type 0} → Bool → ℕ → Sequence → ℕ → ℕ → Both (Bor (List ℕ)) X → Said ℕ
+abbrev pub listing : {X : Type 0} → Bool → ℕ → Sequence → ℕ → ℕ → Both (MutBor (List ℕ)) X → Said ℕ
 listing here count q start end out = tried Number
     (record { why = Window; holds = ltb count end } ∷ record { why = Room; holds = ltb (length out.entry.now) (length (numbers_in (sought here q) start end)) } ∷ [])
     (Gives (length (numbers_in (sought here q) start end)))

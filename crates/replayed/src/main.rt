@@ -5,6 +5,6 @@
 mod cases_1;
 mod played;
 
-fn main() {
-    cases_1::all();
+fn main(rt: HostRuntime) {
+    cases_1::all(&rt);
 }

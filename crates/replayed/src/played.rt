@@ -6,15 +6,15 @@ use meaning::Answer;
 use shown::text;
 
 // A new scan. No column here is refused; one that is would show by the word.
-pub fn new(starts: &[i64], ends: &[u64], steps: &[i16]) -> Scan {
+pub fn new(rt: &HostRuntime, starts: &[i64], ends: &[u64], steps: &[i16]) -> Scan {
     match Scan::new(starts, ends, steps) {
         Made::Ready(s) => {
-            shown::scan(s);
+            shown::scan(rt, s);
             s
         }
         Made::Refused(why) => {
-            shown::refused(why);
-            text(b"\n");
+            shown::refused(rt, why);
+            text(rt, b"\n");
             Scan {
                 start: 0,
                 end: 0,
@@ -25,70 +25,85 @@ pub fn new(starts: &[i64], ends: &[u64], steps: &[i16]) -> Scan {
     }
 }
 
-pub fn next(s: Scan, starts: &[i64], ends: &[u64], steps: &[i16]) -> Scan {
-    shown::told(s.next(starts, ends, steps))
+pub fn next(rt: &HostRuntime, s: Scan, starts: &[i64], ends: &[u64], steps: &[i16]) -> Scan {
+    shown::told(rt, s.next(starts, ends, steps))
 }
 
-pub fn seek(s: Scan, starts: &[i64], ends: &[u64], steps: &[i16], target: i64) -> Scan {
-    shown::told(s.seek(starts, ends, steps, target))
+pub fn seek(
+    rt: &HostRuntime,
+    s: Scan,
+    starts: &[i64],
+    ends: &[u64],
+    steps: &[i16],
+    target: i64,
+) -> Scan {
+    shown::told(rt, s.seek(starts, ends, steps, target))
 }
 
-pub fn narrow(s: Scan, starts: &[i64], ends: &[u64], steps: &[i16], from: u64, to: u64) -> Scan {
-    shown::told(s.narrow(starts, ends, steps, from, to))
+pub fn narrow(
+    rt: &HostRuntime,
+    s: Scan,
+    starts: &[i64],
+    ends: &[u64],
+    steps: &[i16],
+    from: u64,
+    to: u64,
+) -> Scan {
+    shown::told(rt, s.narrow(starts, ends, steps, from, to))
 }
 
-pub fn reset(s: Scan, starts: &[i64], ends: &[u64], steps: &[i16]) -> Scan {
-    shown::told(s.reset(starts, ends, steps))
+pub fn reset(rt: &HostRuntime, s: Scan, starts: &[i64], ends: &[u64], steps: &[i16]) -> Scan {
+    shown::told(rt, s.reset(starts, ends, steps))
 }
 
-pub fn current(s: Scan) {
-    shown::answer(s.current());
-    text(b"\n");
+pub fn current(rt: &HostRuntime, s: Scan) {
+    shown::answer(rt, s.current());
+    text(rt, b"\n");
 }
 
-pub fn pos(s: Scan, starts: &[i64], ends: &[u64], steps: &[i16]) {
-    shown::position(s.pos(starts, ends, steps));
-    text(b"\n");
+pub fn pos(rt: &HostRuntime, s: Scan, starts: &[i64], ends: &[u64], steps: &[i16]) {
+    shown::position(rt, s.pos(starts, ends, steps));
+    text(rt, b"\n");
 }
 
-fn bound(b: Bound) {
+fn bound(rt: &HostRuntime, b: Bound) {
     let kind = b.boundary;
     let value = b.value;
     match kind {
-        BoundaryType::Inclusive => text(b" up to "),
-        BoundaryType::Exclusive => text(b" below "),
+        BoundaryType::Inclusive => text(rt, b" up to "),
+        BoundaryType::Exclusive => text(rt, b" below "),
     }
-    shown::signed(value);
+    shown::signed(rt, value);
 }
 
-fn limit(l: Limit) {
+fn limit(rt: &HostRuntime, l: Limit) {
     match l {
-        Limit::Free => text(b" free"),
-        Limit::To(b) => bound(b),
+        Limit::Free => text(rt, b" free"),
+        Limit::To(b) => bound(rt, b),
     }
 }
 
 // The filter's state, then its scan.
-fn filter(f: Filter) -> Filter {
+fn filter(rt: &HostRuntime, f: Filter) -> Filter {
     let state = f.state;
     let scan = f.scan;
     match state {
-        FilterState::Before => text(b" before"),
+        FilterState::Before => text(rt, b" before"),
         FilterState::Within(l) => {
-            text(b" within");
-            limit(l);
+            text(rt, b" within");
+            limit(rt, l);
         }
-        FilterState::After => text(b" after"),
+        FilterState::After => text(rt, b" after"),
     }
-    shown::scan(scan);
+    shown::scan(rt, scan);
     f
 }
 
-fn sifted(s: Sifted) -> Filter {
+fn sifted(rt: &HostRuntime, s: Sifted) -> Filter {
     let answer = s.answer;
     let f = s.filter;
-    shown::answer(answer);
-    filter(f)
+    shown::answer(rt, answer);
+    filter(rt, f)
 }
 
 pub fn inclusive(value: i64) -> Bound {
@@ -196,13 +211,13 @@ pub fn i2(one: Input, two: Input) -> Inputs {
 }
 
 // A new filter over the scan, in the mode that the Rust has. None here has too many bounds; one that has would show by the word.
-pub fn fnew(s: Scan, lower: Bounds, upper: Bounds) -> Filter {
+pub fn fnew(rt: &HostRuntime, s: Scan, lower: Bounds, upper: Bounds) -> Filter {
     let mode = Mode::InclusiveWins;
     match Filter::new(s, mode, lower, upper) {
-        Fitted::Ready(f) => filter(f),
+        Fitted::Ready(f) => filter(rt, f),
         Fitted::Refused(why) => {
-            shown::refused(why);
-            text(b"\n");
+            shown::refused(rt, why);
+            text(rt, b"\n");
             Filter {
                 scan: s,
                 mode,
@@ -215,6 +230,7 @@ pub fn fnew(s: Scan, lower: Bounds, upper: Bounds) -> Filter {
 }
 
 pub fn fnext(
+    rt: &HostRuntime,
     f: Filter,
     starts: &[i64],
     ends: &[u64],
@@ -223,10 +239,11 @@ pub fn fnext(
     upper: Variables,
     given: Inputs,
 ) -> Filter {
-    sifted(f.next(starts, ends, steps, lower, upper, given))
+    sifted(rt, f.next(starts, ends, steps, lower, upper, given))
 }
 
 pub fn fseek(
+    rt: &HostRuntime,
     f: Filter,
     starts: &[i64],
     ends: &[u64],
@@ -236,14 +253,14 @@ pub fn fseek(
     upper: Variables,
     given: Inputs,
 ) -> Filter {
-    sifted(f.seek(starts, ends, steps, target, lower, upper, given))
+    sifted(rt, f.seek(starts, ends, steps, target, lower, upper, given))
 }
 
-pub fn fcurrent(f: Filter) {
-    shown::answer(f.current());
-    text(b"\n");
+pub fn fcurrent(rt: &HostRuntime, f: Filter) {
+    shown::answer(rt, f.current());
+    text(rt, b"\n");
 }
 
-pub fn freset(f: Filter) -> Filter {
-    filter(f.reset())
+pub fn freset(rt: &HostRuntime, f: Filter) -> Filter {
+    filter(rt, f.reset())
 }

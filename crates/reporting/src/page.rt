@@ -3,8 +3,9 @@ use crate::asked::{Asked, adds_up, size};
 use crate::held::{escaped, grouped, text, told};
 
 // Colours: on a screen that is dark, and on paper, others.
-fn style(buf: &mut [u8; 65536], at: usize) -> usize {
+fn style(rt: &HostRuntime, buf: &mut [u8; 65536], at: usize) -> usize {
     text(
+        rt,
         b"<style>\n:root{--paper:#faf8f3;--ink:#1c2420;--soft:#5b6760;--line:#dcd7ca;--card:#fff;\
         --carried:#17594a;--filled:#f1c27d;--bad:#a3262a}\n\
         @media screen and (prefers-color-scheme:dark){:root{--paper:#141816;--ink:#e9ece8;--soft:#a0aca5;\
@@ -34,25 +35,27 @@ fn style(buf: &mut [u8; 65536], at: usize) -> usize {
 }
 
 // The file's name; a dash is standard input.
-fn name(file: &[u8], buf: &mut [u8; 65536], at: usize) -> usize {
+fn name(rt: &HostRuntime, file: &[u8], buf: &mut [u8; 65536], at: usize) -> usize {
     if check::same(file, b"-") {
-        return text(b"standard input", buf, at);
+        return text(rt, b"standard input", buf, at);
     }
-    escaped(file, buf, at)
+    escaped(rt, file, buf, at)
 }
 
-fn opening(file: &[u8], buf: &mut [u8; 65536], at: usize) -> usize {
+fn opening(rt: &HostRuntime, file: &[u8], buf: &mut [u8; 65536], at: usize) -> usize {
     let a = text(
+        rt,
         b"<!DOCTYPE html>\n<html lang=\"en\">\n<head>\n<meta charset=\"utf-8\">\n\
         <meta name=\"viewport\" content=\"width=device-width, initial-scale=1\">\n\
         <meta name=\"color-scheme\" content=\"light dark\">\n<title>Filled logs: ",
         buf,
         at,
     );
-    let b = name(file, buf, a);
-    let c = text(b"</title>\n", buf, b);
-    let d = style(buf, c);
+    let b = name(rt, file, buf, a);
+    let c = text(rt, b"</title>\n", buf, b);
+    let d = style(rt, buf, c);
     text(
+        rt,
         b"</head>\n<body>\n<main>\n<h1>The filled logs, and no others</h1>\n\
         <p class=\"soft\">A log whose record does not carry the field is filled. This report has every filled log of a window.</p>\n",
         buf,
@@ -61,56 +64,87 @@ fn opening(file: &[u8], buf: &mut [u8; 65536], at: usize) -> usize {
 }
 
 // One of the numbers, on a card of its own.
-fn card(open: &[u8], n: u64, words: &[u8], buf: &mut [u8; 65536], at: usize) -> usize {
-    let a = told(open, n, buf, at);
-    let b = text(b"</b> ", buf, a);
-    let c = text(words, buf, b);
-    text(b"</li>\n", buf, c)
+fn card(
+    rt: &HostRuntime,
+    open: &[u8],
+    n: u64,
+    words: &[u8],
+    buf: &mut [u8; 65536],
+    at: usize,
+) -> usize {
+    let a = told(rt, open, n, buf, at);
+    let b = text(rt, b"</b> ", buf, a);
+    let c = text(rt, words, buf, b);
+    text(rt, b"</li>\n", buf, c)
 }
 
-fn sums(carried: u64, filled: u64, many: u64, buf: &mut [u8; 65536], at: usize) -> usize {
-    let a = text(b"<ul class=\"sums\">\n", buf, at);
-    let b = card(b"<li class=\"f\"><b>", filled, b"filled", buf, a);
-    let c = card(b"<li class=\"c\"><b>", carried, b"carry the field", buf, b);
-    let d = card(b"<li><b>", many, b"records in the window", buf, c);
-    text(b"</ul>\n", buf, d)
+fn sums(
+    rt: &HostRuntime,
+    carried: u64,
+    filled: u64,
+    many: u64,
+    buf: &mut [u8; 65536],
+    at: usize,
+) -> usize {
+    let a = text(rt, b"<ul class=\"sums\">\n", buf, at);
+    let b = card(rt, b"<li class=\"f\"><b>", filled, b"filled", buf, a);
+    let c = card(
+        rt,
+        b"<li class=\"c\"><b>",
+        carried,
+        b"carry the field",
+        buf,
+        b,
+    );
+    let d = card(rt, b"<li><b>", many, b"records in the window", buf, c);
+    text(rt, b"</ul>\n", buf, d)
 }
 
 // Whether the numbers add up, with the numbers.
-fn verdict(carried: u64, filled: u64, many: u64, buf: &mut [u8; 65536], at: usize) -> usize {
+fn verdict(
+    rt: &HostRuntime,
+    carried: u64,
+    filled: u64,
+    many: u64,
+    buf: &mut [u8; 65536],
+    at: usize,
+) -> usize {
     let a = if adds_up(carried, filled, many) {
-        text(b"<p class=\"check\">&#10003; It adds up: ", buf, at)
+        text(rt, b"<p class=\"check\">&#10003; It adds up: ", buf, at)
     } else {
         text(
+            rt,
             b"<p class=\"check no\">&#10007; It does not add up: ",
             buf,
             at,
         )
     };
-    let b = grouped(filled, buf, a);
-    let c = told(b" filled + ", carried, buf, b);
-    let d = told(b" carried, of ", many, buf, c);
-    text(b" records.</p>\n", buf, d)
+    let b = grouped(rt, filled, buf, a);
+    let c = told(rt, b" filled + ", carried, buf, b);
+    let d = told(rt, b" carried, of ", many, buf, c);
+    text(rt, b" records.</p>\n", buf, d)
 }
 
 // The window in words: its first and its last record.
-fn window(start: u64, end: u64, buf: &mut [u8; 65536], at: usize) -> usize {
+fn window(rt: &HostRuntime, start: u64, end: u64, buf: &mut [u8; 65536], at: usize) -> usize {
     if end <= start {
-        return text(b"no record", buf, at);
+        return text(rt, b"no record", buf, at);
     }
-    let a = told(b"records ", start, buf, at);
-    told(b" to ", end - 1, buf, a)
+    let a = told(rt, b"records ", start, buf, at);
+    told(rt, b" to ", end - 1, buf, a)
 }
 
-fn profile(number: u8, buf: &mut [u8; 65536], at: usize) -> usize {
+fn profile(rt: &HostRuntime, number: u8, buf: &mut [u8; 65536], at: usize) -> usize {
     if number == 1 {
         return text(
+            rt,
             b"1: the column lists the records that carry the field",
             buf,
             at,
         );
     }
     text(
+        rt,
         b"2: the column lists the records that leave the field empty",
         buf,
         at,
@@ -118,24 +152,26 @@ fn profile(number: u8, buf: &mut [u8; 65536], at: usize) -> usize {
 }
 
 // What was asked.
-fn facts(file: &[u8], asked: Asked, buf: &mut [u8; 65536], at: usize) -> usize {
-    let a = text(b"<dl>\n<dt>File</dt><dd><code>", buf, at);
-    let b = name(file, buf, a);
+fn facts(rt: &HostRuntime, file: &[u8], asked: Asked, buf: &mut [u8; 65536], at: usize) -> usize {
+    let a = text(rt, b"<dl>\n<dt>File</dt><dd><code>", buf, at);
+    let b = name(rt, file, buf, a);
     let c = told(
+        rt,
         b"</code></dd>\n<dt>Records in all</dt><dd>",
         asked.count,
         buf,
         b,
     );
-    let d = text(b"</dd>\n<dt>Window</dt><dd>", buf, c);
-    let e = window(asked.start, asked.end, buf, d);
-    let f = text(b"</dd>\n<dt>Profile</dt><dd>", buf, e);
-    let g = profile(asked.profile, buf, f);
-    text(b"</dd>\n</dl>\n", buf, g)
+    let d = text(rt, b"</dd>\n<dt>Window</dt><dd>", buf, c);
+    let e = window(rt, asked.start, asked.end, buf, d);
+    let f = text(rt, b"</dd>\n<dt>Profile</dt><dd>", buf, e);
+    let g = profile(rt, asked.profile, buf, f);
+    text(rt, b"</dd>\n</dl>\n", buf, g)
 }
 
 // All that stands before the picture.
 pub fn front(
+    rt: &HostRuntime,
     asked: Asked,
     file: &[u8],
     carried: u64,
@@ -144,24 +180,26 @@ pub fn front(
     at: usize,
 ) -> usize {
     let many = size(asked.start, asked.end);
-    let a = opening(file, buf, at);
-    let b = facts(file, asked, buf, a);
-    let c = sums(carried, filled, many, buf, b);
-    let d = verdict(carried, filled, many, buf, c);
-    text(b"<h2>The window</h2>\n", buf, d)
+    let a = opening(rt, file, buf, at);
+    let b = facts(rt, file, asked, buf, a);
+    let c = sums(rt, carried, filled, many, buf, b);
+    let d = verdict(rt, carried, filled, many, buf, c);
+    text(rt, b"<h2>The window</h2>\n", buf, d)
 }
 
 // What stands between the picture and the list of so many logs.
-pub fn middle(filled: u64, buf: &mut [u8; 65536], at: usize) -> usize {
-    let a = text(b"<h2>Every filled log</h2>\n", buf, at);
+pub fn middle(rt: &HostRuntime, filled: u64, buf: &mut [u8; 65536], at: usize) -> usize {
+    let a = text(rt, b"<h2>Every filled log</h2>\n", buf, at);
     if filled == 0 {
         return text(
+            rt,
             b"<p>No log of the window is filled.</p>\n<ul class=\"logs\">\n",
             buf,
             a,
         );
     }
     text(
+        rt,
         b"<p class=\"soft\">The list is complete. Neighbours stand together as a range, from its first log to its last, \
         with the number of its logs beside it.</p>\n<ul class=\"logs\">\n",
         buf,
@@ -170,8 +208,9 @@ pub fn middle(filled: u64, buf: &mut [u8; 65536], at: usize) -> usize {
 }
 
 // What stands after the list: where the proof is, and what it does not say.
-pub fn back(buf: &mut [u8; 65536], at: usize) -> usize {
+pub fn back(rt: &HostRuntime, buf: &mut [u8; 65536], at: usize) -> usize {
     text(
+        rt,
         b"</ul>\n<h2>Why there are no others</h2>\n<p>A record is on this list exactly if it is one of the window and does not carry the field. \
         That is no test of this file but a theorem, of every column, every window and both profiles, and a machine checked it: \
         <code>listed-exactly-if</code>, in <code>crates/profile_theorems/proofs/Lists.antt</code>. That the two numbers add up is \

@@ -33,7 +33,7 @@ pub struct Strip {
 }
 
 // The columns of a strip, up to one. What is filled is the ground that they stand on.
-pub fn drawn(strip: Strip, to: u64, buf: &mut [u8; 65536]) -> usize {
+pub fn drawn(rt: &HostRuntime, strip: Strip, to: u64, buf: &mut [u8; 65536]) -> usize {
     let at = strip.at;
     let from = strip.from;
     if strip.shade == 0 {
@@ -42,10 +42,10 @@ pub fn drawn(strip: Strip, to: u64, buf: &mut [u8; 65536]) -> usize {
     if to <= from {
         return at;
     }
-    let a = named(b"<rect class=\"s", strip.shade, buf, at);
-    let b = named(b"\" x=\"", from, buf, a);
-    let c = named(b"\" width=\"", to - from, buf, b);
-    text(b"\" height=\"1\"/>\n", buf, c)
+    let a = named(rt, b"<rect class=\"s", strip.shade, buf, at);
+    let b = named(rt, b"\" x=\"", from, buf, a);
+    let c = named(rt, b"\" width=\"", to - from, buf, b);
+    text(rt, b"\" height=\"1\"/>\n", buf, c)
 }
 
 // What the next column has of so many records, where so many columns are left.
@@ -68,17 +68,24 @@ pub fn column_end(from: u64, end: u64, columns: u64) -> u64 {
 }
 
 // What a column stands for.
-fn scale(many: u64, buf: &mut [u8; 65536], at: usize) -> usize {
+fn scale(rt: &HostRuntime, many: u64, buf: &mut [u8; 65536], at: usize) -> usize {
     if many <= 600 {
-        return text(b"Each column is one record.", buf, at);
+        return text(rt, b"Each column is one record.", buf, at);
     }
-    let a = told(b"Each of the 600 columns stands for ", many / 600, buf, at);
+    let a = told(
+        rt,
+        b"Each of the 600 columns stands for ",
+        many / 600,
+        buf,
+        at,
+    );
     let b = if many % 600 == 0 {
         a
     } else {
-        told(b" or ", many / 600 + 1, buf, a)
+        told(rt, b" or ", many / 600 + 1, buf, a)
     };
     text(
+        rt,
         b" records: the more of them carry the field, the stronger its colour; a single one is enough to show.",
         buf,
         b,
@@ -86,49 +93,59 @@ fn scale(many: u64, buf: &mut [u8; 65536], at: usize) -> usize {
 }
 
 // The numbers below the picture: the first record, one in the middle, the last.
-fn axis(start: u64, end: u64, buf: &mut [u8; 65536], at: usize) -> usize {
+fn axis(rt: &HostRuntime, start: u64, end: u64, buf: &mut [u8; 65536], at: usize) -> usize {
     if end <= start {
         return at;
     }
     let last = end - 1;
-    let a = told(b"<p class=\"axis\"><span>", start, buf, at);
-    let b = told(b"</span><span>", start + (last - start) / 2, buf, a);
-    let c = told(b"</span><span>", last, buf, b);
-    text(b"</span></p>\n", buf, c)
+    let a = told(rt, b"<p class=\"axis\"><span>", start, buf, at);
+    let b = told(rt, b"</span><span>", start + (last - start) / 2, buf, a);
+    let c = told(rt, b"</span><span>", last, buf, b);
+    text(rt, b"</span></p>\n", buf, c)
 }
 
 // A window without records has no picture.
-pub fn none(buf: &mut [u8; 65536], at: usize) -> usize {
-    text(b"<p>The window holds no record.</p>\n", buf, at)
+pub fn none(rt: &HostRuntime, buf: &mut [u8; 65536], at: usize) -> usize {
+    text(rt, b"<p>The window holds no record.</p>\n", buf, at)
 }
 
 // What stands before the columns: the ground.
-pub fn opened(many: u64, buf: &mut [u8; 65536], at: usize) -> usize {
+pub fn opened(rt: &HostRuntime, many: u64, buf: &mut [u8; 65536], at: usize) -> usize {
     let all = columns(many);
     let a = named(
+        rt,
         b"<figure>\n<svg xmlns=\"http://www.w3.org/2000/svg\" role=\"img\" preserveAspectRatio=\"none\" viewBox=\"0 0 ",
         all,
         buf,
         at,
     );
     let b = named(
+        rt,
         b" 1\">\n<title>Where the field is carried, and where it is filled</title>\n<rect class=\"ground\" width=\"",
         all,
         buf,
         a,
     );
-    text(b"\" height=\"1\"/>\n", buf, b)
+    text(rt, b"\" height=\"1\"/>\n", buf, b)
 }
 
 // What stands after them: the axis and the legend.
-pub fn closed(start: u64, end: u64, many: u64, buf: &mut [u8; 65536], at: usize) -> usize {
-    let a = text(b"</svg>\n", buf, at);
-    let b = axis(start, end, buf, a);
+pub fn closed(
+    rt: &HostRuntime,
+    start: u64,
+    end: u64,
+    many: u64,
+    buf: &mut [u8; 65536],
+    at: usize,
+) -> usize {
+    let a = text(rt, b"</svg>\n", buf, at);
+    let b = axis(rt, start, end, buf, a);
     let c = text(
+        rt,
         b"<figcaption><span class=\"key all\"></span>carries the field <span class=\"key none\"></span>filled<br>\n",
         buf,
         b,
     );
-    let d = scale(many, buf, c);
-    text(b"</figcaption>\n</figure>\n", buf, d)
+    let d = scale(rt, many, buf, c);
+    text(rt, b"</figcaption>\n</figure>\n", buf, d)
 }

@@ -5,6 +5,7 @@ use words::places::{CSV, HTML, JSON};
 
 // One of three texts, by the format.
 fn said(
+    rt: &HostRuntime,
     form: usize,
     lines: &[u8],
     csv: &[u8],
@@ -13,56 +14,85 @@ fn said(
     at: usize,
 ) -> usize {
     if form == CSV {
-        return text(csv, buf, at);
+        return text(rt, csv, buf, at);
     }
     if form == JSON {
-        return text(json, buf, at);
+        return text(rt, json, buf, at);
     }
-    text(lines, buf, at)
+    text(rt, lines, buf, at)
 }
 
 // A row of a page: 13 to 19, and how many these are.
-fn item(first: u64, last: u64, n: u64, buf: &mut [u8; 65536], at: usize) -> usize {
-    let from = told(b"<li>", first, buf, at);
+fn item(
+    rt: &HostRuntime,
+    first: u64,
+    last: u64,
+    n: u64,
+    buf: &mut [u8; 65536],
+    at: usize,
+) -> usize {
+    let from = told(rt, b"<li>", first, buf, at);
     if n == 1 {
-        return text(b"</li>\n", buf, from);
+        return text(rt, b"</li>\n", buf, from);
     }
-    let to = told(b"&ndash;", last, buf, from);
-    let many = told(b" <small>", n, buf, to);
-    text(b"</small></li>\n", buf, many)
+    let to = told(rt, b"&ndash;", last, buf, from);
+    let many = told(rt, b" <small>", n, buf, to);
+    text(rt, b"</small></li>\n", buf, many)
 }
 
 // A row of the lines: '13..19 filled', or '4 filled' where it is one log.
-fn line(first: u64, last: u64, n: u64, buf: &mut [u8; 65536], at: usize) -> usize {
-    let from = number(first, buf, at);
+fn line(
+    rt: &HostRuntime,
+    first: u64,
+    last: u64,
+    n: u64,
+    buf: &mut [u8; 65536],
+    at: usize,
+) -> usize {
+    let from = number(rt, first, buf, at);
     if n == 1 {
-        return text(b" filled\n", buf, from);
+        return text(rt, b" filled\n", buf, from);
     }
-    let to = named(b"..", last, buf, from);
-    text(b" filled\n", buf, to)
+    let to = named(rt, b"..", last, buf, from);
+    text(rt, b" filled\n", buf, to)
 }
 
 // A row of a table: 'filled range,13,19,7'.
-fn cells(first: u64, last: u64, n: u64, buf: &mut [u8; 65536], at: usize) -> usize {
-    let from = named(b"filled range,", first, buf, at);
-    let to = named(b",", last, buf, from);
-    let many = named(b",", n, buf, to);
-    text(b"\n", buf, many)
+fn cells(
+    rt: &HostRuntime,
+    first: u64,
+    last: u64,
+    n: u64,
+    buf: &mut [u8; 65536],
+    at: usize,
+) -> usize {
+    let from = named(rt, b"filled range,", first, buf, at);
+    let to = named(rt, b",", last, buf, from);
+    let many = named(rt, b",", n, buf, to);
+    text(rt, b"\n", buf, many)
 }
 
 // A pair of a list of pairs: '[13,19]', after a comma but where it leads.
-fn pair(lead: bool, first: u64, last: u64, buf: &mut [u8; 65536], at: usize) -> usize {
+fn pair(
+    rt: &HostRuntime,
+    lead: bool,
+    first: u64,
+    last: u64,
+    buf: &mut [u8; 65536],
+    at: usize,
+) -> usize {
     let from = if lead {
-        named(b"[", first, buf, at)
+        named(rt, b"[", first, buf, at)
     } else {
-        named(b",[", first, buf, at)
+        named(rt, b",[", first, buf, at)
     };
-    let to = named(b",", last, buf, from);
-    text(b"]\n", buf, to)
+    let to = named(rt, b",", last, buf, from);
+    text(rt, b"]\n", buf, to)
 }
 
 // The row of a range, in its format; `lead` where it is the first.
 pub fn range(
+    rt: &HostRuntime,
     form: usize,
     lead: bool,
     first: u64,
@@ -72,42 +102,64 @@ pub fn range(
     at: usize,
 ) -> usize {
     if form == HTML {
-        return item(first, last, n, buf, at);
+        return item(rt, first, last, n, buf, at);
     }
     if form == CSV {
-        return cells(first, last, n, buf, at);
+        return cells(rt, first, last, n, buf, at);
     }
     if form == JSON {
-        return pair(lead, first, last, buf, at);
+        return pair(rt, lead, first, last, buf, at);
     }
-    line(first, last, n, buf, at)
+    line(rt, first, last, n, buf, at)
 }
 
 // The window of a table: its first and last record, where there is one, and how many there are.
-fn window_cells(start: u64, end: u64, buf: &mut [u8; 65536], at: usize) -> usize {
+fn window_cells(rt: &HostRuntime, start: u64, end: u64, buf: &mut [u8; 65536], at: usize) -> usize {
     if end <= start {
-        return text(b",,0", buf, at);
+        return text(rt, b",,0", buf, at);
     }
-    let a = number(start, buf, at);
-    let b = named(b",", end - 1, buf, a);
-    named(b",", end - start, buf, b)
+    let a = number(rt, start, buf, at);
+    let b = named(rt, b",", end - 1, buf, a);
+    named(rt, b",", end - start, buf, b)
 }
 
-fn window(form: usize, start: u64, end: u64, buf: &mut [u8; 65536], at: usize) -> usize {
-    let a = said(form, b"\nwindow ", b"\nwindow,", b",\"start\":", buf, at);
+fn window(
+    rt: &HostRuntime,
+    form: usize,
+    start: u64,
+    end: u64,
+    buf: &mut [u8; 65536],
+    at: usize,
+) -> usize {
+    let a = said(
+        rt,
+        form,
+        b"\nwindow ",
+        b"\nwindow,",
+        b",\"start\":",
+        buf,
+        at,
+    );
     if form == CSV {
-        return window_cells(start, end, buf, a);
+        return window_cells(rt, start, end, buf, a);
     }
-    let b = number(start, buf, a);
+    let b = number(rt, start, buf, a);
     if form == JSON {
-        return named(b",\"end\":", end, buf, b);
+        return named(rt, b",\"end\":", end, buf, b);
     }
-    named(b" ", end, buf, b)
+    named(rt, b" ", end, buf, b)
 }
 
 // What was asked: profile, records, window.
-fn question(form: usize, asked: Asked, buf: &mut [u8; 65536], at: usize) -> usize {
+fn question(
+    rt: &HostRuntime,
+    form: usize,
+    asked: Asked,
+    buf: &mut [u8; 65536],
+    at: usize,
+) -> usize {
     let a = said(
+        rt,
         form,
         b"profile ",
         b"row,first,last,value\nprofile,,,",
@@ -115,8 +167,9 @@ fn question(form: usize, asked: Asked, buf: &mut [u8; 65536], at: usize) -> usiz
         buf,
         at,
     );
-    let b = number(asked.profile as u64, buf, a);
+    let b = number(rt, asked.profile as u64, buf, a);
     let c = said(
+        rt,
         form,
         b"\nrecords ",
         b"\nrecords,,,",
@@ -124,14 +177,15 @@ fn question(form: usize, asked: Asked, buf: &mut [u8; 65536], at: usize) -> usiz
         buf,
         b,
     );
-    let d = number(asked.count, buf, c);
-    window(form, asked.start, asked.end, buf, d)
+    let d = number(rt, asked.count, buf, c);
+    window(rt, form, asked.start, asked.end, buf, d)
 }
 
 // Whether the numbers add up, and where the proof stands.
-fn verdict(form: usize, sure: bool, buf: &mut [u8; 65536], at: usize) -> usize {
+fn verdict(rt: &HostRuntime, form: usize, sure: bool, buf: &mut [u8; 65536], at: usize) -> usize {
     let a = if sure {
         said(
+            rt,
             form,
             b"\nadds up yes\nproof ",
             b"\nadds up,,,yes\nproof,,,",
@@ -141,6 +195,7 @@ fn verdict(form: usize, sure: bool, buf: &mut [u8; 65536], at: usize) -> usize {
         )
     } else {
         said(
+            rt,
             form,
             b"\nadds up no\nproof ",
             b"\nadds up,,,no\nproof,,,",
@@ -150,15 +205,17 @@ fn verdict(form: usize, sure: bool, buf: &mut [u8; 65536], at: usize) -> usize {
         )
     };
     let b = text(
+        rt,
         b"docs/AUDIT.md: listed-exactly-if in crates/profile_theorems/proofs/Lists.antt",
         buf,
         a,
     );
-    said(form, b"\n", b"\n", b"\",\"filled_ranges\":[\n", buf, b)
+    said(rt, form, b"\n", b"\n", b"\",\"filled_ranges\":[\n", buf, b)
 }
 
 // The numbers, before the rows.
 pub fn head(
+    rt: &HostRuntime,
     form: usize,
     asked: Asked,
     carried: u64,
@@ -166,8 +223,9 @@ pub fn head(
     buf: &mut [u8; 65536],
     at: usize,
 ) -> usize {
-    let a = question(form, asked, buf, at);
+    let a = question(rt, form, asked, buf, at);
     let b = said(
+        rt,
         form,
         b"\ncarried ",
         b"\ncarried,,,",
@@ -175,10 +233,19 @@ pub fn head(
         buf,
         a,
     );
-    let c = number(carried, buf, b);
-    let d = said(form, b"\nfilled ", b"\nfilled,,,", b",\"filled\":", buf, c);
-    let e = number(filled, buf, d);
+    let c = number(rt, carried, buf, b);
+    let d = said(
+        rt,
+        form,
+        b"\nfilled ",
+        b"\nfilled,,,",
+        b",\"filled\":",
+        buf,
+        c,
+    );
+    let e = number(rt, filled, buf, d);
     verdict(
+        rt,
         form,
         adds_up(carried, filled, size(asked.start, asked.end)),
         buf,
@@ -187,6 +254,6 @@ pub fn head(
 }
 
 // What stands after the rows: JSON alone has something to close.
-pub fn tail(form: usize, buf: &mut [u8; 65536], at: usize) -> usize {
-    said(form, b"", b"", b"]}\n", buf, at)
+pub fn tail(rt: &HostRuntime, form: usize, buf: &mut [u8; 65536], at: usize) -> usize {
+    said(rt, form, b"", b"", b"]}\n", buf, at)
 }

@@ -2,7 +2,6 @@
 #![tactic(auto)]
 
 use checked::Checked;
-use libc::STDOUT_FILENO;
 use loftsplice::listing::Listed;
 use loftsplice::refusal::number;
 use loftsplice::rle::{Emptiness, Got, Length, Placed};
@@ -10,174 +9,183 @@ use loftsplice::run_length_encodable::Difference;
 use loftsplice::scan::{Carried, Moved, Position, Scan, State};
 use meaning::{Answer, Refusal};
 
-pub fn text(s: &[u8]) {
-    io::write_all(STDOUT_FILENO, s);
+pub fn text(rt: &HostRuntime, s: &[u8]) {
+    let _ = rt.write_all(s);
 }
 
-pub fn unsigned(n: u64) {
-    io::print_decimal(STDOUT_FILENO, n);
+pub fn unsigned(rt: &HostRuntime, n: u64) {
+    let mut digits = [0u8; 20];
+    let count = io::decimal(n, &mut digits);
+    text(rt, &digits[..count]);
 }
 
 // A number with its sign, by its key: 2^63 is 0.
-pub fn signed(x: i64) {
+pub fn signed(rt: &HostRuntime, x: i64) {
     let k = keys::bias(x);
     if k < 9223372036854775808 {
-        text(b"-");
-        unsigned(9223372036854775808 - k);
+        text(rt, b"-");
+        unsigned(rt, 9223372036854775808 - k);
     } else {
-        unsigned(k - 9223372036854775808);
+        unsigned(rt, k - 9223372036854775808);
     }
 }
 
-pub fn refused(why: Refusal) {
-    text(b"refused ");
-    unsigned(number(why) as u64);
+pub fn refused(rt: &HostRuntime, why: Refusal) {
+    text(rt, b"refused ");
+    unsigned(rt, number(why) as u64);
 }
 
-pub fn difference(d: Difference) {
+pub fn difference(rt: &HostRuntime, d: Difference) {
     match d {
-        Difference::Step(step) => signed(step as i64),
-        Difference::None => text(b"none"),
+        Difference::Step(step) => signed(rt, step as i64),
+        Difference::None => text(rt, b"none"),
     }
 }
 
-pub fn checked(c: Checked) {
+pub fn checked(rt: &HostRuntime, c: Checked) {
     match c {
-        Checked::Fine => text(b"fine"),
-        Checked::Refused(why) => refused(why),
+        Checked::Fine => text(rt, b"fine"),
+        Checked::Refused(why) => refused(rt, why),
     }
 }
 
-pub fn length(n: Length) {
+pub fn length(rt: &HostRuntime, n: Length) {
     match n {
-        Length::Is(k) => unsigned(k),
-        Length::Refused(why) => refused(why),
+        Length::Is(k) => unsigned(rt, k),
+        Length::Refused(why) => refused(rt, why),
     }
 }
 
-pub fn emptiness(e: Emptiness) {
+pub fn emptiness(rt: &HostRuntime, e: Emptiness) {
     match e {
-        Emptiness::Empty => text(b"empty"),
-        Emptiness::Held => text(b"not empty"),
-        Emptiness::Refused(why) => refused(why),
+        Emptiness::Empty => text(rt, b"empty"),
+        Emptiness::Held => text(rt, b"not empty"),
+        Emptiness::Refused(why) => refused(rt, why),
     }
 }
 
-pub fn placed(p: Placed) {
+pub fn placed(rt: &HostRuntime, p: Placed) {
     match p {
         Placed::At(at) => {
-            text(b"(");
-            unsigned(at.run as u64);
-            text(b",");
-            unsigned(at.offset);
-            text(b",");
-            unsigned(at.follows);
-            text(b")");
+            text(rt, b"(");
+            unsigned(rt, at.run as u64);
+            text(rt, b",");
+            unsigned(rt, at.offset);
+            text(rt, b",");
+            unsigned(rt, at.follows);
+            text(rt, b")");
         }
-        Placed::Refused(why) => refused(why),
+        Placed::Refused(why) => refused(rt, why),
     }
 }
 
-pub fn got(g: Got) {
+pub fn got(rt: &HostRuntime, g: Got) {
     match g {
-        Got::Value(v) => signed(v),
-        Got::Refused(why) => refused(why),
+        Got::Value(v) => signed(rt, v),
+        Got::Refused(why) => refused(rt, why),
     }
 }
 
-pub fn answer(a: Answer) {
+pub fn answer(rt: &HostRuntime, a: Answer) {
     match a {
-        Answer::Value(v) => signed(v),
-        Answer::None => text(b"none"),
-        Answer::Refused(why) => refused(why),
+        Answer::Value(v) => signed(rt, v),
+        Answer::None => text(rt, b"none"),
+        Answer::Refused(why) => refused(rt, why),
     }
 }
 
-pub fn position(p: Position) {
+pub fn position(rt: &HostRuntime, p: Position) {
     match p {
-        Position::Index(i) => unsigned(i),
-        Position::None => text(b"none"),
-        Position::Refused(why) => refused(why),
+        Position::Index(i) => unsigned(rt, i),
+        Position::None => text(rt, b"none"),
+        Position::Refused(why) => refused(rt, why),
     }
 }
 
-fn state(s: State) {
+fn state(rt: &HostRuntime, s: State) {
     match s {
-        State::Fresh => text(b"fresh"),
-        State::At(i) => unsigned(i),
-        State::Ended => text(b"ended"),
+        State::Fresh => text(rt, b"fresh"),
+        State::At(i) => unsigned(rt, i),
+        State::Ended => text(rt, b"ended"),
     }
 }
 
 // What a scan carries, if it carries a value.
-fn carried(c: Carried) {
+fn carried(rt: &HostRuntime, c: Carried) {
     match c {
         Carried::Value(v) => {
-            text(b" (");
-            signed(v);
-            text(b")");
+            text(rt, b" (");
+            signed(rt, v);
+            text(rt, b")");
         }
         Carried::None => {}
     }
 }
 
 // A scan: its window, its state, and what it carries.
-pub fn scan(s: Scan) {
+pub fn scan(rt: &HostRuntime, s: Scan) {
     let now = s.state;
     let value = s.value;
-    text(b" | ");
-    unsigned(s.start);
-    text(b"..");
-    unsigned(s.end);
-    text(b" ");
-    state(now);
-    carried(value);
-    text(b"\n");
+    text(rt, b" | ");
+    unsigned(rt, s.start);
+    text(rt, b"..");
+    unsigned(rt, s.end);
+    text(rt, b" ");
+    state(rt, now);
+    carried(rt, value);
+    text(rt, b"\n");
 }
 
 // What a call answered, and the scan that it handed back.
-pub fn told(m: Moved) -> Scan {
+pub fn told(rt: &HostRuntime, m: Moved) -> Scan {
     let a = m.answer;
     let s = m.scan;
-    answer(a);
-    scan(s);
+    answer(rt, a);
+    scan(rt, s);
     s
 }
 
-pub fn listed(l: Listed) {
+pub fn listed(rt: &HostRuntime, l: Listed) {
     match l {
-        Listed::Sum(n) => unsigned(n),
-        Listed::Refused(why) => refused(why),
+        Listed::Sum(n) => unsigned(rt, n),
+        Listed::Refused(why) => refused(rt, why),
     }
 }
 
 // What a place of the three arrays holds.
-pub fn place(start: i64, end: u64, step: i16) {
-    text(b" (");
-    signed(start);
-    text(b",");
-    unsigned(end);
-    text(b",");
-    signed(step as i64);
-    text(b")");
+pub fn place(rt: &HostRuntime, start: i64, end: u64, step: i16) {
+    text(rt, b" (");
+    signed(rt, start);
+    text(rt, b",");
+    unsigned(rt, end);
+    text(rt, b",");
+    signed(rt, step as i64);
+    text(rt, b")");
 }
 
 // All places of the three arrays, and a line end.
-pub fn places(starts: &[i64; 3], ends: &[u64; 3], steps: &[i16; 3]) {
+pub fn places(rt: &HostRuntime, starts: &[i64; 3], ends: &[u64; 3], steps: &[i16; 3]) {
     let mut i = 0;
     while i < 3 {
-        place(starts[i], ends[i], steps[i]);
+        place(rt, starts[i], ends[i], steps[i]);
         i += 1;
     }
-    text(b"\n");
+    text(rt, b"\n");
+}
+
+// A byte in two digits.
+fn byte(rt: &HostRuntime, value: u8) {
+    let mut digits = [0u8; 16];
+    let count = io::hex(value as u64, 2, &mut digits);
+    text(rt, &digits[..count]);
 }
 
 // Bytes, each in two digits.
-pub fn hex(bytes: &[u8]) {
+pub fn hex(rt: &HostRuntime, bytes: &[u8]) {
     let mut i = 0;
     while i < bytes.len() {
-        text(b" ");
-        io::print_hex(STDOUT_FILENO, bytes[i] as u64, 2);
+        text(rt, b" ");
+        byte(rt, bytes[i]);
         i += 1;
     }
 }

@@ -3,14 +3,14 @@ use crate::printing::text;
 use words::places::{CSV, JSON};
 
 // One of three texts, by the format.
-pub fn said(form: usize, lines: &[u8], csv: &[u8], json: &[u8]) -> bool {
+pub fn said(rt: &HostRuntime, form: usize, lines: &[u8], csv: &[u8], json: &[u8]) -> bool {
     if form == CSV {
-        return text(csv);
+        return text(rt, csv);
     }
     if form == JSON {
-        return text(json);
+        return text(rt, json);
     }
-    text(lines)
+    text(rt, lines)
 }
 
 // The byte before the first item of a list; 0: none.
@@ -24,12 +24,12 @@ pub fn next(lead: u8) -> u8 {
 }
 
 // The end of a list, by the byte that would stand before its next item.
-pub fn closed(lead: u8) -> bool {
+pub fn closed(rt: &HostRuntime, lead: u8) -> bool {
     if lead == 91 {
-        return text(b"[]\n");
+        return text(rt, b"[]\n");
     }
     if lead == 44 {
-        return text(b"]\n");
+        return text(rt, b"]\n");
     }
     true
 }

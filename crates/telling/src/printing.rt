@@ -2,87 +2,105 @@
 ghost use Rattle.std.specs.Prelude.{◌+◌, ◌≤◌};
 
 use crate::forms::next;
-use libc::{STDERR_FILENO, STDOUT_FILENO};
 use loftsplice::refusal::number;
 use meaning::Refusal;
 
-pub fn message(s: &[u8]) {
-    io::write_all(STDERR_FILENO, s);
+pub fn message(rt: &HostRuntime, s: &[u8]) {
+    let _ = rt.stderr().write_all(s);
+}
+
+// A number among messages.
+pub fn message_number(rt: &HostRuntime, n: u64) {
+    let mut digits = [0u8; 20];
+    let count = io::decimal(n, &mut digits);
+    message(rt, &digits[..count]);
 }
 
 // Why, in words, before the number and the name.
-fn reason(why: Refusal) {
-    message(b"loftsplice: ");
+fn reason(rt: &HostRuntime, why: Refusal) {
+    message(rt, b"loftsplice: ");
     match why {
-        Refusal::Shape => message(b"array lengths differ, or over 4,096 runs\n"),
-        Refusal::Ends => message(b"a run length is 0, or the total is over 4,294,967,295\n"),
-        Refusal::Reach => message(b"a run's last element is outside i64\n"),
-        Refusal::Index => message(b"the index is not below the length\n"),
-        Refusal::Window => message(b"the window's end is above the length\n"),
+        Refusal::Shape => message(rt, b"array lengths differ, or over 4,096 runs\n"),
+        Refusal::Ends => message(
+            rt,
+            b"a run length is 0, or the total is over 4,294,967,295\n",
+        ),
+        Refusal::Reach => message(rt, b"a run's last element is outside i64\n"),
+        Refusal::Index => message(rt, b"the index is not below the length\n"),
+        Refusal::Window => message(rt, b"the window's end is above the length\n"),
         Refusal::Scan => message(
+            rt,
             b"the scan's window or index is outside, or its value is not the element there\n",
         ),
-        Refusal::Order => message(b"the elements do not rise\n"),
-        Refusal::Bounds => message(b"too many bounds, inputs or windows\n"),
-        Refusal::Input => message(b"a bound's input has no value\n"),
-        Refusal::Room => message(b"an output has too few places\n"),
-        Refusal::Cut => message(b"fewer bytes than the length says, or than the records need\n"),
-        Refusal::Kind => message(b"the kind is not 1\n"),
-        Refusal::Size => message(b"the length is no record's\n"),
-        Refusal::Count => message(b"there are too many records\n"),
-        Refusal::Range => message(b"an element is no record number\n"),
-        Refusal::Profile => message(b"the profile is neither 1 nor 2\n"),
-        Refusal::Falling => message(b"a run falls\n"),
-        Refusal::Total => message(b"the sum over all windows is out of range\n"),
+        Refusal::Order => message(rt, b"the elements do not rise\n"),
+        Refusal::Bounds => message(rt, b"too many bounds, inputs or windows\n"),
+        Refusal::Input => message(rt, b"a bound's input has no value\n"),
+        Refusal::Room => message(rt, b"an output has too few places\n"),
+        Refusal::Cut => message(
+            rt,
+            b"fewer bytes than the length says, or than the records need\n",
+        ),
+        Refusal::Kind => message(rt, b"the kind is not 1\n"),
+        Refusal::Size => message(rt, b"the length is no record's\n"),
+        Refusal::Count => message(rt, b"there are too many records\n"),
+        Refusal::Range => message(rt, b"an element is no record number\n"),
+        Refusal::Profile => message(rt, b"the profile is neither 1 nor 2\n"),
+        Refusal::Falling => message(rt, b"a run falls\n"),
+        Refusal::Total => message(rt, b"the sum over all windows is out of range\n"),
     }
 }
 
 // A refusal's name in documents 01 and 02, and a line end.
-fn name(why: Refusal) {
+fn name(rt: &HostRuntime, why: Refusal) {
     match why {
-        Refusal::Shape => message(b" SHAPE\n"),
-        Refusal::Ends => message(b" ENDS\n"),
-        Refusal::Reach => message(b" REACH\n"),
-        Refusal::Index => message(b" INDEX\n"),
-        Refusal::Window => message(b" WINDOW\n"),
-        Refusal::Scan => message(b" SCAN\n"),
-        Refusal::Order => message(b" ORDER\n"),
-        Refusal::Bounds => message(b" BOUNDS\n"),
-        Refusal::Input => message(b" INPUT\n"),
-        Refusal::Room => message(b" ROOM\n"),
-        Refusal::Cut => message(b" CUT\n"),
-        Refusal::Kind => message(b" KIND\n"),
-        Refusal::Size => message(b" SIZE\n"),
-        Refusal::Count => message(b" COUNT\n"),
-        Refusal::Range => message(b" RANGE\n"),
-        Refusal::Profile => message(b" PROFILE\n"),
-        Refusal::Falling => message(b" FALLING\n"),
-        Refusal::Total => message(b" TOTAL\n"),
+        Refusal::Shape => message(rt, b" SHAPE\n"),
+        Refusal::Ends => message(rt, b" ENDS\n"),
+        Refusal::Reach => message(rt, b" REACH\n"),
+        Refusal::Index => message(rt, b" INDEX\n"),
+        Refusal::Window => message(rt, b" WINDOW\n"),
+        Refusal::Scan => message(rt, b" SCAN\n"),
+        Refusal::Order => message(rt, b" ORDER\n"),
+        Refusal::Bounds => message(rt, b" BOUNDS\n"),
+        Refusal::Input => message(rt, b" INPUT\n"),
+        Refusal::Room => message(rt, b" ROOM\n"),
+        Refusal::Cut => message(rt, b" CUT\n"),
+        Refusal::Kind => message(rt, b" KIND\n"),
+        Refusal::Size => message(rt, b" SIZE\n"),
+        Refusal::Count => message(rt, b" COUNT\n"),
+        Refusal::Range => message(rt, b" RANGE\n"),
+        Refusal::Profile => message(rt, b" PROFILE\n"),
+        Refusal::Falling => message(rt, b" FALLING\n"),
+        Refusal::Total => message(rt, b" TOTAL\n"),
     }
 }
 
 // The last line of a call that is refused.
-pub fn refused(why: Refusal) {
-    reason(why);
-    message(b"refused ");
-    io::print_decimal(STDERR_FILENO, number(why) as u64);
-    name(why);
+pub fn refused(rt: &HostRuntime, why: Refusal) {
+    reason(rt, why);
+    message(rt, b"refused ");
+    message_number(rt, number(why) as u64);
+    name(rt, why);
 }
 
 // Whether all was written, after a message where not.
-fn told(written: bool) -> bool {
+fn told(rt: &HostRuntime, written: bool) -> bool {
     if !written {
-        message(b"loftsplice: standard output takes no more\nnot written\n");
+        message(
+            rt,
+            b"loftsplice: standard output takes no more\nnot written\n",
+        );
     }
     written
 }
 
-pub fn text(s: &[u8]) -> bool {
-    told(io::write_all(STDOUT_FILENO, s))
+pub fn text(rt: &HostRuntime, s: &[u8]) -> bool {
+    told(rt, rt.write_all(s).is_ok())
 }
 
-pub fn unsigned(n: u64) -> bool {
-    told(io::print_decimal(STDOUT_FILENO, n))
+pub fn unsigned(rt: &HostRuntime, n: u64) -> bool {
+    let mut digits = [0u8; 20];
+    let count = io::decimal(n, &mut digits);
+    text(rt, &digits[..count])
 }
 
 // The first so many of 20 digits and one byte more, into the buffer from a place on. Answers the place after them.
@@ -148,26 +166,26 @@ pub(crate) fn put_text(s: &[u8], buf: &mut [u8; 65536], at: usize) -> usize
 }
 
 // The buffer up to a place, by one write.
-fn flush(buf: &[u8; 65536], at: usize) -> bool
+fn flush(rt: &HostRuntime, buf: &[u8; 65536], at: usize) -> bool
     requires { at ≤ 65536 }
 {
     let view: &[u8] = buf;
-    text(&view[..at])
+    text(rt, &view[..at])
 }
 
 // The rows that a buffer holds up to a place.
-pub fn written(buf: &[u8; 65536], at: usize) -> bool {
+pub fn written(rt: &HostRuntime, buf: &[u8; 65536], at: usize) -> bool {
     if 65536 < at {
         return false;
     }
-    flush(buf, at)
+    flush(rt, buf, at)
 }
 
 // A number and one byte more.
-pub fn signed(value: i64, after: u8) -> bool {
+pub fn signed(rt: &HostRuntime, value: i64, after: u8) -> bool {
     let mut buf = io::large_buffer();
     let at = put(value, after, &mut buf, 0);
-    flush(&buf, at)
+    flush(rt, &buf, at)
 }
 
 // An item of a list: the byte before it, 0 where there is none, the number and a line end.
@@ -180,7 +198,7 @@ fn put_item(lead: u8, value: i64, buf: &mut [u8; 65536], at: usize) -> usize
 }
 
 // The first so many of the values, one a line, with the byte that stands before the first of them.
-pub fn values(list: &[i64; 2048], count: u64, lead: u8) -> bool {
+pub fn values(rt: &HostRuntime, list: &[i64; 2048], count: u64, lead: u8) -> bool {
     let mut buf = io::large_buffer();
     let mut at: usize = 0;
     let mut before = lead;
@@ -190,5 +208,5 @@ pub fn values(list: &[i64; 2048], count: u64, lead: u8) -> bool {
         before = next(before);
         i += 1;
     }
-    flush(&buf, at)
+    flush(rt, &buf, at)
 }

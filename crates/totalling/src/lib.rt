@@ -18,22 +18,23 @@ use words::windows::windows;
 pub mod decimal;
 
 // Writes the text of a sum: its decimal digits, and nothing else.
-fn put_sum(text: &[u8], high: i64, low: u64) -> bool
+fn put_sum(rt: &HostRuntime, text: &[u8], high: i64, low: u64) -> bool
     requires { text.now ≡ text_of (worth high low) }
 {
-    printing::text(text)
+    printing::text(rt, text)
 }
 
-fn sum(high: i64, low: u64) -> bool {
+fn sum(rt: &HostRuntime, high: i64, low: u64) -> bool {
     let mut out = [0u8; 30];
     let at = spelled(high, low, &mut out);
-    put_sum(&out[at..], high, low)
+    put_sum(rt, &out[at..], high, low)
 }
 
 // The least and the greatest, where there are any, and what stands between them and after them.
-fn edged(form: usize, edges: Edges) -> bool {
+fn edged(rt: &HostRuntime, form: usize, edges: Edges) -> bool {
     match edges {
         Edges::None => said(
+            rt,
             form,
             b"none greatest none ",
             b",,",
@@ -41,31 +42,31 @@ fn edged(form: usize, edges: Edges) -> bool {
         ),
         Edges::Are(least, greatest) => {
             let after = if form == LINES { 32 } else { 44 };
-            signed(least, after)
-                && said(form, b"greatest ", b"", b"\"greatest\":")
-                && signed(greatest, after)
+            signed(rt, least, after)
+                && said(rt, form, b"greatest ", b"", b"\"greatest\":")
+                && signed(rt, greatest, after)
         }
     }
 }
 
 // A total but for what stands before and after it.
-fn told(form: usize, count: u64, edges: Edges, high: i64, low: u64) -> bool {
-    said(form, b"count ", b"", b"\"count\":")
-        && unsigned(count)
-        && said(form, b" least ", b",", b",\"least\":")
-        && edged(form, edges)
-        && said(form, b"sum ", b"", b"\"sum\":")
-        && sum(high, low)
+fn told(rt: &HostRuntime, form: usize, count: u64, edges: Edges, high: i64, low: u64) -> bool {
+    said(rt, form, b"count ", b"", b"\"count\":")
+        && unsigned(rt, count)
+        && said(rt, form, b" least ", b",", b",\"least\":")
+        && edged(rt, form, edges)
+        && said(rt, form, b"sum ", b"", b"\"sum\":")
+        && sum(rt, high, low)
 }
 
 // A window, after the byte before it where the format has one.
-fn placed(form: usize, before: u8, start: u64, end: u64) -> bool {
-    (before == 0 || printing::text(&[before]))
-        && said(form, b"", b"", b"{\"start\":")
-        && unsigned(start)
-        && said(form, b" ", b",", b",\"end\":")
-        && unsigned(end)
-        && said(form, b" ", b",", b",")
+fn placed(rt: &HostRuntime, form: usize, before: u8, start: u64, end: u64) -> bool {
+    (before == 0 || printing::text(rt, &[before]))
+        && said(rt, form, b"", b"", b"{\"start\":")
+        && unsigned(rt, start)
+        && said(rt, form, b" ", b",", b",\"end\":")
+        && unsigned(rt, end)
+        && said(rt, form, b" ", b",", b",")
 }
 
 // A window has a least and a greatest where it has an element.
@@ -78,6 +79,7 @@ fn edges_of(count: u64, least: i64, greatest: i64) -> Edges {
 
 // The row of a window.
 fn row(
+    rt: &HostRuntime,
     form: usize,
     before: u8,
     start: u64,
@@ -89,13 +91,14 @@ fn row(
     low: u64,
 ) -> bool {
     let edges = edges_of(count, least, greatest);
-    placed(form, before, start, end)
-        && told(form, count, edges, high, low)
-        && said(form, b"\n", b"\n", b"}\n")
+    placed(rt, form, before, start, end)
+        && told(rt, form, count, edges, high, low)
+        && said(rt, form, b"\n", b"\n", b"}\n")
 }
 
 // The rows of the first so many windows.
 fn rows(
+    rt: &HostRuntime,
     form: usize,
     n: usize,
     from: &[u64; 257],
@@ -110,6 +113,7 @@ fn rows(
     let mut i = 0;
     while i < 256 && i < n {
         if !row(
+            rt,
             form,
             before,
             from[i],
@@ -129,15 +133,16 @@ fn rows(
 }
 
 // The row over all windows, and the end.
-fn over_all(form: usize, all: Total) -> bool {
+fn over_all(rt: &HostRuntime, form: usize, all: Total) -> bool {
     let edges = all.edges;
-    said(form, b"all ", b",,", b"],\"all\":{")
-        && told(form, all.count, edges, all.high, all.low)
-        && said(form, b"\n", b"\n", b"}}\n")
+    said(rt, form, b"all ", b",,", b"],\"all\":{")
+        && told(rt, form, all.count, edges, all.high, all.low)
+        && said(rt, form, b"\n", b"\n", b"}}\n")
 }
 
 // The totals of the first so many windows; over 256 are refused.
 fn answered(
+    rt: &HostRuntime,
     starts: &[i64],
     ends: &[u64],
     steps: &[i16],
@@ -167,37 +172,44 @@ fn answered(
         &mut highs,
         &mut lows,
     ) {
-        Totalled::Refused(why) => printing::refused(why),
+        Totalled::Refused(why) => printing::refused(rt, why),
         Totalled::All(all) => {
             if said(
+                rt,
                 form,
                 b"",
                 b"start,end,count,least,greatest,sum\n",
                 b"{\"windows\":\n",
             ) && rows(
-                form, n, from, to, &counts, &leasts, &greatests, &highs, &lows,
+                rt, form, n, from, to, &counts, &leasts, &greatests, &highs, &lows,
             ) {
-                over_all(form, all);
+                over_all(rt, form, all);
             }
         }
     }
 }
 
 // The windows that are asked for, or the one that the whole column is.
-pub fn total_windows(starts: &[i64], ends: &[u64], steps: &[i16], places: &[usize; 16]) {
+pub fn total_windows(
+    rt: &HostRuntime,
+    starts: &[i64],
+    ends: &[u64],
+    steps: &[i16],
+    places: &[usize; 16],
+) {
     let mut from = [0u64; 257];
     let mut to = [0u64; 257];
     let form = places[FORMAT];
-    let n = windows(places[FILE], &mut from, &mut to);
+    let n = windows(rt, places[FILE], &mut from, &mut to);
     if 0 < n {
-        answered(starts, ends, steps, n, &from, &to, form);
+        answered(rt, starts, ends, steps, n, &from, &to, form);
         return;
     }
     match len(starts, ends, steps) {
-        Length::Refused(why) => printing::refused(why),
+        Length::Refused(why) => printing::refused(rt, why),
         Length::Is(length) => {
             to[0] = length;
-            answered(starts, ends, steps, 1, &from, &to, form);
+            answered(rt, starts, ends, steps, 1, &from, &to, form);
         }
     }
 }

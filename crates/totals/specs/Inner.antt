@@ -4,7 +4,7 @@ use Rattle.std.proofs.lemmas.List.Edits.{sets}
 use Rattle.std.proofs.Math.IntN.{sub_ℕ}
 use Rattle.std.specs.Int.Signed.{mag}
 use denote.Triple.Both.{Both}
-use Rattle.std.specs.Borrow.{Bor}
+use Rattle.std.specs.Borrow.{Bor, MutBor}
 use Rattle.keys.specs.Key.{key, unkey, down}
 use Rattle.keys.specs.Widths.{half64}
 use Rattle.meaning.specs.declared.Refusal.TheVariants.{Window, Bounds, Room, Total as NoHigh}
@@ -161,14 +161,14 @@ module _ {X Y : Type 0} (from : Both (Bor (List ℕ)) X) (to : Both (Bor (List �
   abbrev pub sound_in : Sequence → List ℕ → Said Total
   sound_in q rooms = sound_of q from.entry.now to.entry.now rooms
 
-  abbrev pub FilledIn : {A : Type 0} → (List ℕ → List ℕ → ℕ → A) → Both (Bor (List A)) (Bor (List A)) → Type 0
+  abbrev pub FilledIn : {A : Type 0} → (List ℕ → List ℕ → ℕ → A) → Both (MutBor (List A)) (MutBor (List A)) → Type 0
   FilledIn value out = Filled (value from.entry.now to.entry.now) (length from.entry.now) out.entry.now out.exit.now
 
 -- the places of five outputs
-abbrev pub rooms_in : {A B C D E : Type 0} → Both (Bor (List ℕ)) A → Both (Bor (List ℤ)) B → Both (Bor (List ℤ)) C → Both (Bor (List ℤ)) D → Both (Bor (List ℕ)) E → List ℕ
+abbrev pub rooms_in : {A B C D E : Type 0} → Both (MutBor (List ℕ)) A → Both (MutBor (List ℤ)) B → Both (MutBor (List ℤ)) C → Both (MutBor (List ℤ)) D → Both (MutBor (List ℕ)) E → List ℕ
 rooms_in counts leasts greatests highs lows =
     length counts.entry.now ∷ length leasts.entry.now ∷ length greatests.entry.now ∷ length highs.entry.now ∷ length lows.entry.now ∷ []
 
 -- values, but what an output held where the count is 0
-abbrev pub held_in : {A B C : Type 0} → Both (Bor (List ℕ)) A → Both (Bor (List ℤ)) B → Both (Bor (List ℤ)) C → List ℤ
+abbrev pub held_in : {A B C : Type 0} → Both (MutBor (List ℕ)) A → Both (MutBor (List ℤ)) B → Both (MutBor (List ℤ)) C → List ℤ
 held_in counts values out = held_by counts.entry.now values.entry.now out.entry.now

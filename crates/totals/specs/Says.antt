@@ -2,7 +2,7 @@
 -- values for each of its cases." Assumes nothing.
 use Rattle.std.specs.Prelude.{ℕ, List, [], ◌∷◌, length, ℤ}
 use denote.Triple.Both.{Both}
-use Rattle.std.specs.Borrow.{Bor}
+use Rattle.std.specs.Borrow.{Bor, MutBor}
 use Rattle.meaning.specs.Refusals.{Said, Gives, Number, number_of}
 use Rattle.meaning.specs.Sequence.{Sequence, Source}
 use Rattle.totals.specs.declared.Total.{Total}
@@ -18,8 +18,8 @@ says_totalled (Refused why) = Number (number_of why)
 -- of two lent lists of windows
 module _ {X Y : Type 0} (from : Both (Bor (List ℕ)) X) (to : Both (Bor (List ℕ)) Y) where
   -- what is to be said, for these outputs
-  abbrev pub totalling : {A B C D E : Type 0} → Source → Both (Bor (List ℕ)) A → Both (Bor (List ℤ)) B → Both (Bor (List ℤ)) C → Both (Bor (List ℤ)) D
-      → Both (Bor (List ℕ)) E → Said Total
+  abbrev pub totalling : {A B C D E : Type 0} → Source → Both (MutBor (List ℕ)) A → Both (MutBor (List ℤ)) B → Both (MutBor (List ℤ)) C → Both (MutBor (List ℤ)) D
+      → Both (MutBor (List ℕ)) E → Said Total
   totalling p counts leasts greatests highs lows = totals_of p from.entry.now to.entry.now
       (length counts.entry.now ∷ length leasts.entry.now ∷ length greatests.entry.now ∷ length highs.entry.now ∷ length lows.entry.now ∷ [])
 
@@ -34,7 +34,7 @@ module _ {X Y : Type 0} (from : Both (Bor (List ℕ)) X) (to : Both (Bor (List �
     abbrev pub lows_in : List ℕ
     lows_in = lows_of q from.entry.now to.entry.now
 
-    module _ {Z : Type 0} (out : Both (Bor (List ℤ)) Z) where
+    module _ {Z : Type 0} (out : Both (MutBor (List ℤ)) Z) where
       abbrev pub leasts_in : List ℤ
       leasts_in = leasts_of q from.entry.now to.entry.now out.entry.now
 

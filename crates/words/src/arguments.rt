@@ -1,6 +1,8 @@
 // What the command is asked to do. Argument 1 is the word for it; those that follow are read here, before the file is.
 ghost use Rattle.std.specs.Prelude.{◌≤◌, ◌<◌};
 
+use crate::argv;
+use crate::argv::argument;
 use crate::numbers::{Signed, Unsigned, read_signed, read_unsigned};
 use crate::options::{Command, equal, fits, format_of, is_number, option_of, value_start};
 use crate::places::{FILE, FORMAT, LINES, NUMBERS, OPERANDS, OUT, PLAIN, RISING, WANTED, WRONG};
@@ -12,21 +14,21 @@ fn signed_in(word: &[u8]) -> Signed {
 }
 
 // Argument i as a number; a missing one is none.
-pub fn signed(i: usize) -> Signed {
+pub fn signed(rt: &HostRuntime, i: usize) -> Signed {
     let mut buf = io::buffer();
-    let n = os::arg(i, &mut buf);
+    let n = argument(rt, i, &mut buf);
     signed_in(&buf[..n])
 }
 
-pub fn unsigned(i: usize) -> Unsigned {
+pub fn unsigned(rt: &HostRuntime, i: usize) -> Unsigned {
     let mut buf = io::buffer();
-    let n = os::arg(i, &mut buf);
+    let n = argument(rt, i, &mut buf);
     read_unsigned(&buf[..n])
 }
 
 // The same where it was read before, as every operand is that has to be a number.
-pub fn natural(i: usize) -> u64 {
-    match unsigned(i) {
+pub fn natural(rt: &HostRuntime, i: usize) -> u64 {
+    match unsigned(rt, i) {
         Unsigned::Not => 0,
         Unsigned::Is(n) => n,
     }
@@ -79,16 +81,23 @@ fn valued(
     wrong(i, 1, places)
 }
 
-fn value_after(command: Command, option: usize, i: usize, places: &mut [usize; 16]) -> usize
+fn value_after(
+    rt: &HostRuntime,
+    command: Command,
+    option: usize,
+    i: usize,
+    places: &mut [usize; 16],
+) -> usize
     requires { option < 12 }
 {
     let mut buf = io::buffer();
-    let n = os::arg(i, &mut buf);
+    let n = argument(rt, i, &mut buf);
     valued(command, option, &buf[..n], i, 2, places)
 }
 
 // Takes an option: its value stands behind a '=' or in the next argument. None is given twice. Answers how many arguments it has.
 fn option(
+    rt: &HostRuntime,
     command: Command,
     word: &[u8],
     i: usize,
@@ -113,7 +122,7 @@ fn option(
         places[option] = i;
         return 1;
     }
-    value_after(command, option, after, places)
+    value_after(rt, command, option, after, places)
 }
 
 // Takes a number that is asked for.
@@ -194,7 +203,14 @@ fn is_option(word: &[u8]) -> bool {
 }
 
 // Takes a word. Answers how many arguments were taken, 1 or 2.
-fn taken(command: Command, word: &[u8], i: usize, after: usize, places: &mut [usize; 16]) -> usize {
+fn taken(
+    rt: &HostRuntime,
+    command: Command,
+    word: &[u8],
+    i: usize,
+    after: usize,
+    places: &mut [usize; 16],
+) -> usize {
     if places[PLAIN] != 0 {
         return operand(command, word, i, places);
     }
@@ -205,20 +221,26 @@ fn taken(command: Command, word: &[u8], i: usize, after: usize, places: &mut [us
         places[PLAIN] = i;
         return 1;
     }
-    option(command, word, i, after, places)
+    option(rt, command, word, i, after, places)
 }
 
-fn argument(command: Command, i: usize, after: usize, places: &mut [usize; 16]) -> usize {
+fn take(
+    rt: &HostRuntime,
+    command: Command,
+    i: usize,
+    after: usize,
+    places: &mut [usize; 16],
+) -> usize {
     let mut buf = io::buffer();
-    let n = os::arg(i, &mut buf);
-    taken(command, &buf[..n], i, after, places)
+    let n = argument(rt, i, &mut buf);
+    taken(rt, command, &buf[..n], i, after, places)
 }
 
 // Takes the arguments from 2 on, up to the first that is wrong.
-fn take_all(command: Command, count: usize, places: &mut [usize; 16]) {
+fn take_all(rt: &HostRuntime, command: Command, count: usize, places: &mut [usize; 16]) {
     let mut i = 2;
     while i < count {
-        let took = argument(command, i, i + 1, places);
+        let took = take(rt, command, i, i + 1, places);
         if places[WRONG] != 0 {
             return;
         }
@@ -259,25 +281,25 @@ fn named(word: &[u8]) -> Command {
     Command::Wrong
 }
 
-fn first() -> Command {
+fn first(rt: &HostRuntime) -> Command {
     let mut buf = io::buffer();
-    let n = os::arg(1, &mut buf);
+    let n = argument(rt, 1, &mut buf);
     named(&buf[..n])
 }
 
 // What is asked for, and where the words for it stand; or Wrong, and which word is.
-pub fn given(places: &mut [usize; 16]) -> Command {
-    let count = os::arg_count();
-    let command = first();
+pub fn given(rt: &HostRuntime, places: &mut [usize; 16]) -> Command {
+    let count = argv::count(rt);
+    let command = first(rt);
     if let Command::Wrong = command {
         places[WRONG] = 1;
         return Command::Wrong;
     }
-    take_all(command, count, places);
+    take_all(rt, command, count, places);
     if places[WRONG] != 0 {
         return Command::Wrong;
     }
-    together(command, count, places);
+    together(rt, command, count, places);
     if places[WRONG] != 0 {
         return Command::Wrong;
     }
@@ -285,14 +307,14 @@ pub fn given(places: &mut [usize; 16]) -> Command {
 }
 
 // Takes argument i among the numbers that are asked for, if it is one. Answers how many there are then.
-fn collect(file: usize, i: usize, out: &mut [i64; 512], n: usize) -> usize
+fn collect(rt: &HostRuntime, file: usize, i: usize, out: &mut [i64; 512], n: usize) -> usize
     requires { n < 512 }
     ensures { result ≤ 512 }
 {
     if i == file {
         return n;
     }
-    match signed(i) {
+    match signed(rt, i) {
         Signed::Not => n,
         Signed::Is(k) => {
             out[n] = k;
@@ -310,12 +332,12 @@ pub struct Batch {
 
 // The numbers that are asked for among the arguments from one on, as many as there is room for. Of the words of `find` no other is a number but,
 // perhaps, the file.
-pub fn numbers(file: usize, from: usize, out: &mut [i64; 512]) -> Batch {
-    let count = os::arg_count();
+pub fn numbers(rt: &HostRuntime, file: usize, from: usize, out: &mut [i64; 512]) -> Batch {
+    let count = argv::count(rt);
     let mut n = 0;
     let mut i = from;
     while i < count && n < 512 {
-        n = collect(file, i, out, n);
+        n = collect(rt, file, i, out, n);
         i += 1;
     }
     Batch { count: n, next: i }

@@ -2,6 +2,7 @@
 #![tactic(auto)]
 
 pub mod arguments;
+pub mod argv;
 pub mod lines;
 pub mod numbers;
 pub mod options;

@@ -23,7 +23,11 @@ pub enum Command {
 pub fn equal(word: &[u8]) -> usize
     ensures { result ≤ length word.now }
 {
-    bytes::scan::find(word, 0, word.len(), 61)
+    let mut at = 0;
+    while at < word.len() && word[at] != 61 {
+        at += 1;
+    }
+    at
 }
 
 // Whether a word begins with two dashes: no value does.

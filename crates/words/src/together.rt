@@ -1,4 +1,5 @@
 // What the words come to together: which is missing, and which exclude each other.
+use crate::argv::argument;
 use crate::options::{Command, value_start};
 use crate::places::{ABOVE, BELOW, COUNT, FILE, FILLED, FROM, NUMBERS, OPERANDS, TO, WRONG};
 
@@ -39,14 +40,20 @@ fn is_dash(word: &[u8]) -> bool {
     check::same(&word[from..], b"-")
 }
 
-fn dash(i: usize) -> bool {
+fn dash(rt: &HostRuntime, i: usize) -> bool {
     let mut buf = io::buffer();
-    let n = os::arg(i, &mut buf);
+    let n = argument(rt, i, &mut buf);
     is_dash(&buf[..n])
 }
 
 // Notes a file of numbers beside numbers, or where record and numbers would both be read from standard input.
-fn two_sources(file: usize, numbers: usize, operands: usize, places: &mut [usize; 16]) {
+fn two_sources(
+    rt: &HostRuntime,
+    file: usize,
+    numbers: usize,
+    operands: usize,
+    places: &mut [usize; 16],
+) {
     if numbers == 0 {
         return;
     }
@@ -54,13 +61,13 @@ fn two_sources(file: usize, numbers: usize, operands: usize, places: &mut [usize
         places[WRONG] = numbers;
         return;
     }
-    if dash(file) && dash(numbers) {
+    if dash(rt, file) && dash(rt, numbers) {
         places[WRONG] = numbers;
     }
 }
 
 // What is wrong with the words together.
-pub fn together(command: Command, count: usize, places: &mut [usize; 16]) {
+pub fn together(rt: &HostRuntime, command: Command, count: usize, places: &mut [usize; 16]) {
     let operands = places[OPERANDS];
     let numbers = places[NUMBERS];
     if incomplete(command, operands, numbers) {
@@ -70,5 +77,5 @@ pub fn together(command: Command, count: usize, places: &mut [usize; 16]) {
     exclude(places[FROM], places[ABOVE], places);
     exclude(places[TO], places[BELOW], places);
     exclude(places[FILLED], places[COUNT], places);
-    two_sources(places[FILE], numbers, operands, places);
+    two_sources(rt, places[FILE], numbers, operands, places);
 }

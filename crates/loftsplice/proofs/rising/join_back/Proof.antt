@@ -35,7 +35,7 @@ mul-before c = search rules
 shared-slice-read-before : tie.Need-bounds-ends-run invariant-loop decreases-loop
 shared-slice-read-before c =
     let l = c.before.before in
-    omega (arith, c.before.loop-run-test.true, l.loop-run.invariant.within, l.loop-run.invariant.there)
+    omega (arith, c.loop-run-test.true, l.loop-run.invariant.within, l.loop-run.invariant.there)
 
 sub-joins : tie.Need-overflow_sub-run invariant-loop decreases-loop
 sub-joins c = search rules
@@ -63,7 +63,7 @@ returns c =
     let in-loop = c.before.before.before in
     let l = in-loop.before in
     walk-off _ _ _ l.loop-run.run l.loop-run.invariant (st l).args.start (l.loop-run.run - 1) (omega (arith, in-loop.loop-run-test.true)) (omega (arith, in-loop.loop-run-test.true))
-    (sym (told c.before) ∙ not-true c.before.joins.result c.if-not-joins.true-raw)
+    (sym (told c.before) ∙ not-true c.joins.result c.if-not-joins.true-raw)
 
 sub-run : tie.Need-overflow_sub-run-in-loop-run invariant-loop decreases-loop
 sub-run c = search rules
@@ -76,15 +76,15 @@ loop-again c =
     let in-loop = c.before.before.before in
     let l = in-loop.before in
     walk-on _ _ _ l.loop-run.run l.loop-run.invariant (l.loop-run.run - 1) (omega (arith, in-loop.loop-run-test.true)) (omega (arith, in-loop.loop-run-test.true))
-    (sym (told c.before) ∙ not-false c.before.joins.result c.if-not-joins.false-raw)
+    (sym (told c.before) ∙ not-false c.joins.result c.if-not-joins.false-raw)
 
 joins-requires-2 : tie.Need-joins-requires-2 invariant-loop decreases-loop
-joins-requires-2 c κs = let s = st c.before in (s.pre.0, (omega (arith, s.pre.1.0), s.pre.1.1))
+joins-requires-2 c κs = let s = st c.before in (s.requires.0, (omega (arith, s.requires.1.0), s.requires.1.1))
 
 returns-2 : tie.Need-returns invariant-loop decreases-loop
 returns-2 c =
     let l = c.before.before in
-    c.joins-2.ensures ∙ walk-done _ _ _ l.loop-run.run l.loop-run.invariant (st l).args.start (omega (arith, c.before.loop-run-test.false))
+    c.joins-2.ensures ∙ walk-done _ _ _ l.loop-run.run l.loop-run.invariant (st l).args.start (omega (arith, c.loop-run-test.false))
 
 pub join_back_spec : {M : Type 1} → statement M
 join_back_spec = tie.close (tie.spec invariant-loop decreases-loop join-fours-requires loop-holds add-loop sub-before mul-before shared-slice-read-before sub-joins joins-requires returns sub-run loop-less loop-again joins-requires-2 returns-2)

@@ -8,4 +8,4 @@ pub returns-in-Refused : goal.returns-in-Refused
 returns-in-Refused c = len-refused _ _ (was-refused _ _ c.check-checked.ensures _ c.in-Refused.is)
 
 pub returns-in-Fine : goal.returns-in-Fine
-returns-in-Fine c = len_is _ (was-fine _ _ c.check-checked.ensures c.in-Fine.is) _ c.end_Before.ensures
+returns-in-Fine c = len_is _ (was-fine _ _ c.check-checked.ensures c.in-Fine.is) _ c.end_before.ensures

@@ -5,10 +5,8 @@ use Rattle.loftsplice.proofs.rle.place_near.Goals as goal
 
 pub place_of-requires : goal.place_of-requires
 place_of-requires c =
-    let s = c.before.before.before in
-    run-here s.args.ends.now s.requires.rising s.args.index s.args.run s.requires.run_in_bounds.0 s.requires.run_in_bounds.1 c.if-index-ends.true
+    run-here c.args.ends.now c.requires.rising c.args.index c.args.run c.requires.run_in_bounds.0 c.requires.run_in_bounds.1 c.if-index-ends.true
 
 pub place_of-requires-2 : goal.place_of-requires-2
 place_of-requires-2 c =
-    let s = c.before.before.before in
-    run-after s.args.ends.now s.requires.rising s.args.index s.args.run s.requires.run_in_bounds.0 (omega (arith, c.if-index-ends.false, s.requires.run_in_bounds.2))
+    run-after c.args.ends.now c.requires.rising c.args.index c.args.run c.requires.run_in_bounds.0 (omega (arith, c.if-index-ends.false, c.requires.run_in_bounds.2))

@@ -15,12 +15,12 @@ end-before-requires : tie.Need-end_before-requires
 end-before-requires c κs = let s = c.before in omega (arith, s.requires, run-le s.args.ends.now s.args.index)
 
 sub-offset : tie.Need-overflow_sub-offset
-sub-offset c = let s = c.before.before in from_le s.args.ends.now s.args.index _ _ s.requires c.end_Before.ensures
+sub-offset c = let s = c.before.before in from_le s.args.ends.now s.args.index _ _ s.requires c.end_before.ensures
 
 returns : tie.Need-returns-then-run-ends
 returns c =
     let s = c.before.before.before in
-    place-past s.args.ends.now s.args.index s.args.run _ s.requires c.before.end_Before.ensures c.if-run-ends.true
+    place-past s.args.ends.now s.args.index s.args.run _ s.requires c.end_before.ensures c.if-run-ends.true
 
 mul-t6 : tie.Need-offset_bounds-ends-run
 mul-t6 c = omega (arith, there c)
@@ -38,7 +38,7 @@ returns-2 : tie.Need-returns
 returns-2 c =
     let at-end-before = c.before.before in
     let s = at-end-before.before.before in
-    place_is s.args.ends.now s.args.index s.args.run _ s.requires at-end-before.end_Before.ensures _ refl
+    place_is s.args.ends.now s.args.index s.args.run _ s.requires at-end-before.end_before.ensures _ refl
 
 pub place_of_spec : {M : Type 1} → statement M
 place_of_spec = tie.close (tie.spec end-before-requires sub-offset returns mul-t6 shared-slice-read-t5 sub-t9 returns-2)

@@ -8,22 +8,15 @@ loop-lo-init c = bracket-start _ _
 
 pub loop-lo-preserved-then-ends-mid : goal.loop-lo-preserved-then-ends-mid
 loop-lo-preserved-then-ends-mid c =
-    let at-loop = c.before.before.before in
-    let at-start = at-loop.before in
-    bracket-up at-loop.loop-lo.invariant _ at-start.requires. (omega arith) c.if-ends-mid.true
+    bracket-up c.loop-lo.invariant _ c.requires (omega arith) c.if-ends-mid.true
 
 pub returns-then-lo-hi : goal.returns-then-lo-hi
 returns-then-lo-hi c = bracket-met c.loop-lo.invariant c.if-lo-hi.true
 
 pub returns-then-mid-lo : goal.returns-then-mid-lo
 returns-then-mid-lo c =
-    let at-else1 = c.before.before.before in
-    let at-loop = at-else1.before in
-    bracket-lo at-loop.loop-lo.invariant _ c.if-mid-lo.true (omega arith) c.if-ends-mid.false
+    bracket-lo c.loop-lo.invariant _ c.if-mid-lo.true (omega arith) c.if-ends-mid.false
 
 pub returns-then-ends-mid-2 : goal.returns-then-ends-mid-2
 returns-then-ends-mid-2 c =
-    let at-else2 = c.before.before.before in
-    let at-loop = at-else2.before.before.before in
-    let at-start = at-loop.before in
-    run-between _ _ _ at-start.requires. (omega arith) (omega arith) c.if-ends-mid-2.true at-else2.if-ends-mid.false
+    run-between _ _ _ c.requires (omega arith) (omega arith) c.if-ends-mid-2.true c.if-ends-mid.false

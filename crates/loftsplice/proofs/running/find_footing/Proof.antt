@@ -17,16 +17,16 @@ use Rattle.loftsplice.proofs.running.find_footing.Tie as tie
 -- the scan passed
 abbrev start : tie.In-Fine → tie.Start
 start c =
-    let shr_slice_at = c.before.before.before in
+    let shr_slice_at = c.before.before in
     shr_slice_at.before
 
 passed : (c : tie.In-Fine) → Passed (source_of (column_now (start c).args.starts (start c).args.ends (start c).args.steps)) (start c).args.scan
-passed c = scan-passed _ (start c).args.scan _ c.before.before.check_scan-stand.ensures.0 c.in-Fine.is
+passed c = scan-passed _ (start c).args.scan _ c.check_scan-stand.ensures.0 c.in-Fine.is
 
 -- what the test of the window told
 window : (c : tie.After-rising) → let s = start c.before.before in
     c.rising.result ≡ rises (sequence_of (column_now s.args.starts s.args.ends s.args.steps)) s.args.scan.start s.args.scan.end
-window c = rw (c.before.window_of-window.ensures.0.0, c.before.window_of-window.ensures.0.1) at c.rising.ensures
+window c = rw (c.window_of-window.ensures.0.0, c.window_of-window.ensures.0.1) at c.rising.ensures
 
 check-scan-requires : tie.Need-check_scan-stand-requires
 check-scan-requires c κs = search rules
@@ -58,7 +58,7 @@ rest-of-requires c κs =
     let at-window-of = at-rising.before in
     let at_told = at-window-of.before in
     let w = at-window-of.window_of-window.ensures in
-    (w.0, (w.1, (index-from _ (start at_told).args.scan (passed at_told).good, at_told.before.before.check_scan-stand.ensures.1 (ap says_checked at_told.in-Fine.is))))
+    (w.0, (w.1, (index-from _ (start at_told).args.scan (passed at_told).good, at_told.check_scan-stand.ensures.1 (ap says_checked at_told.in-Fine.is))))
 
 footing-in-requires : tie.Need-footing_in-requires
 footing-in-requires c κs =
@@ -70,9 +70,9 @@ footing-in-requires c κs =
 
 returns-2 : tie.Need-returns-in-Refused
 returns-2 c =
-    let at-checked = c.before in
-    let at-check-scan = at-checked.before.before in
-    let s = at-check-scan.before.before in
+    let at-checked = c in
+    let at-check-scan = at-checked in
+    let s = at-check-scan in
     footing-refused _ s.args.scan _ at-check-scan.check_scan-stand.ensures.0 _ at-checked.in-Refused.is
 
 returns-3 : tie.Need-returns-else-not-rising

@@ -15,19 +15,19 @@ returns : tie.Need-returns-then-end-from
 returns c = footing-past _ _ _ c.if-end-from.true
 
 element-at-requires : tie.Need-element_at-value-requires
-element-at-requires c κs = let s = start c in (s.pre.0, (omega (arith, c.if-end-from.false, s.pre.1.0), (s.pre.1.1 c.if-end-from.false).0))
+element-at-requires c κs = let s = start c in (s.requires.0, (omega (arith, c.if-end-from.false, s.requires.1.0), (s.requires.1.1 c.if-end-from.false).0))
 
 sub-index : tie.Need-overflow_sub-index
-sub-index c = omega (arith, c.before.if-end-from.false)
+sub-index c = omega (arith, c.if-end-from.false)
 
 place-of-requires : tie.Need-place_of-place-requires
-place-of-requires c κs = ((start c.before).requires.1.1 c.before.if-end-from.false).1
+place-of-requires c κs = ((start c.before).requires.1.1 c.if-end-from.false).1
 
 element-at-requires-2 : tie.Need-element_at-most-requires
 element-at-requires-2 c κs =
     let at-else = c.before.before in
     let s = start at-else in
-    (s.pre.0, (omega (arith, at-else.if-end-from.false, s.pre.1.0), c.place_of-place.ensures))
+    (s.requires.0, (omega (arith, at-else.if-end-from.false, s.requires.1.0), c.place_of-place.ensures))
 
 returns-2 : tie.Need-returns
 returns-2 c =

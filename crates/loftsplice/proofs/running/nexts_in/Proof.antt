@@ -32,7 +32,7 @@ ahead-of-requires c κs = λ i e.
 returns-2 : tie.Need-returns-then-end-first
 returns-2 c =
     let s = origin c.before in
-    nexts-ended (sequence_of (col s)) s.args.scan s.args.out.now _ c.before.ahead_of_lem.ensures (omega (arith, c.before.before.if-places-eq0.false)) c.if-end-first.true
+    nexts-ended (sequence_of (col s)) s.args.scan s.args.out.now _ c.ahead_of-first.ensures (omega (arith, c.if-places-eq0.false)) c.if-end-first.true
 
 sub-left : tie.Need-overflow_sub-left
 sub-left c = search rules
@@ -41,7 +41,7 @@ write-stretch-requires : tie.Need-write_stretch-requires
 write-stretch-requires c κs =
     let e = c.before.before in
     let s = origin e.before in
-    (s.pre.0, (omega (arith, e.if-end-first.false), (within s, omega (arith, c.before.if-left-places.true))))
+    (s.requires.0, (omega (arith, e.if-end-first.false), (within s, omega (arith, c.if-left-places.true))))
 
 same_length : tie.Need-shape_of-out-then-left-places
 same_length c = search rules
@@ -51,7 +51,7 @@ returns-3 c =
     let w = c.before in
     let e = w.before.before.before in
     let s = origin e.before in
-    nexts-to-end (sequence_of (col s)) s.args.scan s.args.out.now _ e.before.ahead_of_lem.ensures (omega (arith, e.before.before.if-places-eq0.false)) _ (omega (arith, e.if-end-first.false)) w.before.before.if-left-places.true w.write_stretch.ensures
+    nexts-to-end (sequence_of (col s)) s.args.scan s.args.out.now _ e.ahead_of-first.ensures (omega (arith, e.if-places-eq0.false)) _ (omega (arith, e.if-end-first.false)) w.if-left-places.true w.write_stretch.ensures
 
 add-write-stretch : tie.Need-overflow_add-first
 add-write-stretch c = search rules
@@ -60,7 +60,7 @@ write-stretch-requires-2 : tie.Need-write_stretch-requires-2
 write-stretch-requires-2 c κs =
     let e = c.before.before in
     let s = origin e.before in
-    (s.pre.0, (omega arith, (omega (arith, within s, e.if-end-first.false, c.before.if-left-places.false), omega arith)))
+    (s.requires.0, (omega arith, (omega (arith, within s, e.if-end-first.false, c.if-left-places.false), omega arith)))
 
 sub-value : tie.Need-overflow_sub-value
 sub-value c = search rules
@@ -85,8 +85,8 @@ returns-4 c =
     let w = c.before.before in
     let e = w.before.before.before in
     let s = origin e.before in
-    nexts-to-full (sequence_of (col s)) s.args.scan s.args.out.now _ e.before.ahead_of_lem.ensures (omega (arith, e.before.before.if-places-eq0.false)) _ _ _ _ _
-    w.before.before.if-left-places.false (omega (arith, e.if-end-first.false)) refl refl w.write_stretch-2.ensures (omega arith) (back w64 _ c.value-1.given)
+    nexts-to-full (sequence_of (col s)) s.args.scan s.args.out.now _ e.ahead_of-first.ensures (omega (arith, e.if-places-eq0.false)) _ _ _ _ _
+    w.if-left-places.false (omega (arith, e.if-end-first.false)) refl refl w.write_stretch-2.ensures (omega arith) (back w64 _ c.value-1.given)
 
 pub nexts_in_spec : {M : Type 1} → statement M
 nexts_in_spec = tie.close (tie.spec returns ahead-of-requires returns-2 sub-left write-stretch-requires same_length returns-3 add-write-stretch write-stretch-requires-2 sub-value mul-value slice-copy-out-value sub-t27 add-t34 same-length-2 returns-4)

@@ -8,23 +8,19 @@ use Rattle.loftsplice.proofs.seek.seek_from.Goals as goal
 
 pub stay_ordered-requires : goal.stay_ordered-requires
 stay_ordered-requires c =
-    let s = c.before.before.before in
     record {
-  steps_value = s.requires.steps_value;
-  end_bound = end-in _ s.args.scan s.requires.scan_value;
+  steps_value = c.requires.steps_value;
+  end_bound = end-in _ c.args.scan c.requires.scan_value;
 }
 
 pub returns-in-Ended : goal.returns-in-Ended
 returns-in-Ended c =
-    let shr_slice_at = c.before.before.before in
-    let s = shr_slice_at.before in
-    let q = sequence_of (column_now s.args.starts s.args.ends s.args.steps) in
-    c.stay_ordered.ensures ∙ ap (on_order q s.args.scan) (seek-ended q s.args.scan s.requires.scan_value s.args.target c.in-Ended.is)
+    let q = sequence_of (column_now c.args.starts c.args.ends c.args.steps) in
+    c.stay_ordered.ensures ∙ ap (on_order q c.args.scan) (seek-ended q c.args.scan c.requires.scan_value c.args.target c.in-Ended.is)
 
 pub seek_ordered-requires : goal.seek_ordered-requires
 seek_ordered-requires c = c.requires
 
 pub returns : goal.returns
 returns c =
-    let s = c.before.before.before in
-    rw (to_z-of_z s.ranges.target) at c.seek_ordered.ensures
+    rw (to_z-of_z c.ranges.target) at c.seek_ordered.ensures

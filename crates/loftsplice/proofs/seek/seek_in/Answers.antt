@@ -8,22 +8,19 @@ use Rattle.loftsplice.proofs.seek.seek_in.Goals as goal
 
 pub seek_spot-to-requires : goal.seek_spot-to-requires
 seek_spot-to-requires c =
-    let s = c.before in
-    (s.requires..whole, (omega (arith, s.requires..is-end, end-in _ s.args.scan s.requires..good), (s.requires..rising, s.requires..lies)))
+    (c.requires.whole, (omega (arith, c.requires.is-end, end-in _ c.args.scan c.requires.good), (c.requires.rising, c.requires.lies)))
 
 pub go_to-requires : goal.go_to-requires
 go_to-requires c =
-    let s = c.before.before in
     record {
-  steps_value = s.requires..whole;
-  end_bound = end-in _ s.args.scan s.requires..good;
-  place_value = λ l. c.seek_spot-to.ensures.place_value (rw s.requires..is-end l);
+  steps_value = c.requires.whole;
+  end_bound = end-in _ c.args.scan c.requires.good;
+  place_value = λ l. c.seek_spot-to.ensures.place_value (rw c.requires.is-end l);
 }
 
 pub returns : goal.returns
 returns c =
-    let s = c.before.before.before in
-    let q = sequence_of (column_now s.args.starts s.args.ends s.args.steps) in
+    let q = sequence_of (column_now c.args.starts c.args.ends c.args.steps) in
     c.go_to.ensures
-    ∙ ap (go_to q s.args.scan) (rw (to_z-of_z s.ranges.target, s.requires..is-start, s.requires..is-end) at c.seek_spot-to.ensures.index_value)
-    ∙ seek-goes q s.args.scan s.args.target s.args.scan.state
+    ∙ ap (go_to q c.args.scan) (rw (to_z-of_z c.ranges.target, c.requires.is-start, c.requires.is-end) at c.seek_spot-to.ensures.index_value)
+    ∙ seek-goes q c.args.scan c.args.target c.args.scan.state

@@ -18,15 +18,15 @@ start c =
 
 window : (c : tie.After-rising) → let s = start c in
     c.rising.result ≡ rises (sequence_of (column_now s.args.starts s.args.ends s.args.steps)) s.args.scan.start s.args.scan.end
-window c = rw (c.before.window_of-window.ensures.0.0, c.before.window_of-window.ensures.0.1) at c.rising.ensures
+window c = rw (c.window_of-window.ensures.0.0, c.window_of-window.ensures.0.1) at c.rising.ensures
 
 window-of-requires : tie.Need-window_of-window-requires
-window-of-requires c κs = (sound-parts _ c.before.pre.0).up
+window-of-requires c κs = (sound-parts _ c.requires.0).up
 
 rising-requires : tie.Need-rising-requires
 rising-requires c κs =
     let s = c.before.before in
-    (s.pre.0, (rw c.window_of-window.ensures.0.1 (end-in _ s.args.scan s.pre.1.0), c.window_of-window.ensures.1))
+    (s.requires.0, (rw c.window_of-window.ensures.0.1 (end-in _ s.args.scan s.requires.1.0), c.window_of-window.ensures.1))
 
 refused-requires : tie.Need-refused-requires
 refused-requires c κs = search rules
@@ -34,14 +34,14 @@ refused-requires c κs = search rules
 returns : tie.Need-returns-then-not-rising
 returns c =
     let at-rising = c.before.before in
-    c.refused.ensures ∙ order-falls _ (start at-rising).args.scan _ (sym (window at-rising) ∙ not-no _ c.before.if-not-rising.true-raw)
+    c.refused.ensures ∙ order-falls _ (start at-rising).args.scan _ (sym (window at-rising) ∙ not-no _ c.if-not-rising.true-raw)
 
 rest-of-requires : tie.Need-rest_of-rest-requires
 rest-of-requires c κs =
     let at-rising = c.before in
     let s = start at-rising in
-    let w = at-rising.before.window_of-window.ensures in
-    (w.0, (w.1, (index-from _ s.args.scan s.pre.1.0, s.pre.1.1)))
+    let w = at-rising.window_of-window.ensures in
+    (w.0, (w.1, (index-from _ s.args.scan s.requires.1.0, s.requires.1.1)))
 
 seek-in-requires : tie.Need-seek_in-requires
 seek-in-requires c κs =
@@ -50,9 +50,9 @@ seek-in-requires c κs =
     let s = start at-rising in
     let r = c.rest_of-rest.ensures in
     record {
-      whole = s.pre.0;
-      good = s.pre.1.0;
-      rising = rw (r.0.0, r.0.1) (rest-rises _ s.args.scan s.pre.1.0 (sym (window at-rising) ∙ not-false _ at-else.if-not-rising.false-raw));
+      whole = s.requires.0;
+      good = s.requires.1.0;
+      rising = rw (r.0.0, r.0.1) (rest-rises _ s.args.scan s.requires.1.0 (sym (window at-rising) ∙ not-false _ at-else.if-not-rising.false-raw));
       is-start = r.0.0;
       is-end = r.0.1;
       lies = r.1;

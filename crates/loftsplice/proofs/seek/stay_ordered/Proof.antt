@@ -18,15 +18,15 @@ start c =
 
 window : (c : tie.After-rising) → let s = start c in
     c.rising.result ≡ rises (sequence_of (column_now s.args.starts s.args.ends s.args.steps)) s.args.scan.start s.args.scan.end
-window c = rw (c.before.window_of-whole.ensures.0.0, c.before.window_of-whole.ensures.0.1) at c.rising.ensures
+window c = rw (c.window_of-whole.ensures.0.0, c.window_of-whole.ensures.0.1) at c.rising.ensures
 
 window-of-requires : tie.Need-window_of-whole-requires
-window-of-requires c κs = (sound-parts _ c.before.pre.0).up
+window-of-requires c κs = (sound-parts _ c.requires.0).up
 
 rising-requires : tie.Need-rising-requires
 rising-requires c κs =
     let s = c.before.before in
-    (s.pre.0, (rw c.window_of-whole.ensures.0.1 s.pre.1, c.window_of-whole.ensures.1))
+    (s.requires.0, (rw c.window_of-whole.ensures.0.1 s.requires.1, c.window_of-whole.ensures.1))
 
 refused-requires : tie.Need-refused-requires
 refused-requires c κs = search rules
@@ -34,7 +34,7 @@ refused-requires c κs = search rules
 returns : tie.Need-returns-then-not-rising
 returns c =
     let at-rising = c.before.before in
-    c.refused.ensures ∙ order-falls _ (start at-rising).args.scan _ (sym (window at-rising) ∙ not-no _ c.before.if-not-rising.true-raw)
+    c.refused.ensures ∙ order-falls _ (start at-rising).args.scan _ (sym (window at-rising) ∙ not-no _ c.if-not-rising.true-raw)
 
 returns-2 : tie.Need-returns
 returns-2 c =

@@ -6,8 +6,7 @@ use Rattle.loftsplice.proofs.seeking.distance.Goals as goal
 
 pub returns : goal.returns
 returns c =
-    let s = c.before.before.before in
-    let to : c.unsigned64.result ≡ of_signed 8 s.args.target = c.unsigned64.ensures ∙ ap (of_signed 8) (to_z-of_z s.ranges.target) in
-    let from : c.unsigned64-2.result ≡ of_signed 8 s.args.start = c.unsigned64-2.ensures ∙ ap (of_signed 8) (to_z-of_z s.ranges.start) in
+    let to : c.unsigned64.result ≡ of_signed 8 c.args.target = c.unsigned64.ensures ∙ ap (of_signed 8) (to_z-of_z c.ranges.target) in
+    let from : c.unsigned64-2.result ≡ of_signed 8 c.args.start = c.unsigned64-2.ensures ∙ ap (of_signed 8) (to_z-of_z c.ranges.start) in
     let w : (c.wrapping_sub_u64.result + c.unsigned64-2.result) % 18446744073709551616 ≡ c.unsigned64.result = c.wrapping_sub_u64.ensures.value in
-    distance_is s.args.start s.args.target s.ranges.start.sfits s.ranges.target.sfits s.requires. _ c.wrapping_sub_u64.type_inv (rw (from, to) at w)
+    distance_is c.args.start c.args.target c.ranges.start.sfits c.ranges.target.sfits c.requires _ c.wrapping_sub_u64.type_inv (rw (from, to) at w)

@@ -11,5 +11,5 @@ returns-then-end-start c = record {
 pub returns : goal.returns
 returns c = record {
   index_value = (refl, refl);
-  lies = λ _. (c.IsPlace-in.ensures, c.run_of.ensures);
+  lies = λ _. (c.place_in-place.ensures, c.run_of.ensures);
 }

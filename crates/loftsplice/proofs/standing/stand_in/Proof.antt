@@ -13,11 +13,11 @@ start c = c.before.before.before
 
 -- the window ends in the column
 within : (c : tie.Else-end_before-end) → let s = start c in s.args.scan.end ≤ size_of (column_now s.args.starts s.args.ends s.args.steps)
-within c = omega (arith, c.before.end_Before.ensures, c.if-end_before-end.false)
+within c = omega (arith, c.end_before, .if-end_before-end.ensures, c.if-end_before-end.false)
 
 -- at an index
 abbrev outer : tie.In-At → tie.Else-end_before-end
-outer c = c.before.before.before
+outer c = c.before
 
 end-before-requires : tie.Need-end_before-requires
 end-before-requires c κs = search rules
@@ -30,7 +30,7 @@ returns c =
     let at-end-before = c.before.before in
     let s = at-end-before.before.before in
     let told = ap says_checked c.nowhere.ensures in
-    (told ∙ ap off_if (sym (bad-end _ s.args.scan (omega (arith, at-end-before.end_Before.ensures, c.before.if-end_before-end.true)))), λ e. refuses-not _ (sym told ∙ e))
+    (told ∙ ap off_if (sym (bad-end _ s.args.scan (omega (arith, at-end-before.end_before.ensures, c.if-end_before-end.true)))), λ e. refuses-not _ (sym told ∙ e))
 
 enum_told : tie.Need-enum_told-1
 enum_told c = search rules
@@ -49,7 +49,7 @@ returns-2 c =
     let at_told = c.before.before in
     let s = start (outer at_told) in
     let told = ap says_checked c.nowhere-then-index-start.ensures in
-    (told ∙ ap off_if (sym (bad-below _ s.args.scan _ at_told.before.in-At.is c.before.if-index-start.true)), λ e. refuses-not _ (sym told ∙ e))
+    (told ∙ ap off_if (sym (bad-below _ s.args.scan _ at_told.in-At.is c.if-index-start.true)), λ e. refuses-not _ (sym told ∙ e))
 
 nowhere-requires-3 : tie.Need-nowhere-requires-then-end-index
 nowhere-requires-3 c κs = search rules
@@ -59,12 +59,12 @@ returns-3 c =
     let at_told = c.before.before.before in
     let s = start (outer at_told) in
     let told = ap says_checked c.nowhere-then-end-index.ensures in
-    (told ∙ ap off_if (sym (bad-above _ s.args.scan _ at_told.before.in-At.is c.before.if-end-index.true)), λ e. refuses-not _ (sym told ∙ e))
+    (told ∙ ap off_if (sym (bad-above _ s.args.scan _ at_told.in-At.is c.if-end-index.true)), λ e. refuses-not _ (sym told ∙ e))
 
 check-value-requires : tie.Need-check_value-requires
 check-value-requires c κs =
     let o = outer c.before.before in
-    ((start o).pre, omega (arith, within o, c.if-end-index.false))
+    ((start o).requires, omega (arith, within o, c.if-end-index.false))
 
 enum-told-2 : tie.Need-enum_told-in-Ended
 enum-told-2 c = search rules
@@ -75,7 +75,7 @@ check-none-requires-2 c κs = search rules
 returns-4 : tie.Need-returns-in-Fresh
 returns-4 c =
     let at_told = c.before in
-    let o = at_told.before.before in (
+    let o = at_told.before in (
       c.check_none.ensures ∙ ap off_if (sym (bad-fresh _ (start o).args.scan (within o) at_told.in-Fresh.is)),
       λ _. rw at_told.in-Fresh.is tt,
     )
@@ -85,15 +85,15 @@ returns-5 c =
     let at-else = c.before in
     let at_told = at-else.before.before in
     let o = outer at_told in
-    let is = at_told.before.in-At.is in (
-      c.check_value.ensures.0 ∙ ap off_if (sym (bad-at _ (start o).args.scan (within o) _ is at-else.before.if-index-start.false at-else.if-end-index.false)),
+    let is = at_told.in-At.is in (
+      c.check_value.ensures.0 ∙ ap off_if (sym (bad-at _ (start o).args.scan (within o) _ is at-else.if-index-start.false at-else.if-end-index.false)),
       λ e. rw is (c.check_value.ensures.1 e),
     )
 
 returns-6 : tie.Need-returns-in-Ended
 returns-6 c =
     let at_told = c.before in
-    let o = at_told.before.before in (
+    let o = at_told.before in (
       c.check_none-in-Ended.ensures ∙ ap off_if (sym (bad-ended _ (start o).args.scan (within o) at_told.in-Ended.is)),
       λ _. rw at_told.in-Ended.is tt,
     )

@@ -5,23 +5,13 @@ use Rattle.loftsplice.proofs.scan.Scan.narrow.Goals as goal
 
 pub returns-then-end_before-end : goal.returns-then-end_before-end
 returns-then-end_before-end c =
-    let at-end-before = c.before.before in
-    let at-enum-told = at-end-before.before in
-    let at-check-scan = at-enum-told.before.before in
-    let s = at-check-scan.before.before in
     c.refused-then-end_before-end.ensures
-    ∙ narrow-window _ s.args.self _ at-check-scan.check_scan-stand.ensures.checked_value at-enum-told.in-Fine.is s.args.start s.args.end (omega (arith, at-end-before.end_Before.ensures, c.if-end_before-end.true))
+    ∙ narrow-window _ c.args.self _ c.check_scan-stand.ensures.checked_value c.in-Fine.is c.args.start c.args.end (omega (arith, c.end_Before.ensures, c.if-end_before-end.true))
 
 pub returns-in-Refused : goal.returns-in-Refused
 returns-in-Refused c =
-    let at-checked = c.before.before in
-    let at-check-scan = at-checked.before.before in
-    let s = at-check-scan.before.before in
-    c.refused.ensures ∙ narrow-refused _ s.args.self _ at-check-scan.check_scan-stand.ensures.checked_value _ at-checked.in-Refused.is s.args.start s.args.end
+    c.refused.ensures ∙ narrow-refused _ c.args.self _ c.check_scan-stand.ensures.checked_value _ c.in-Refused.is c.args.start c.args.end
 
 pub returns-else-end_before-end : goal.returns-else-end_before-end
 returns-else-end_before-end c =
-    let at-match-keys2 = c.before.before.before in
-    let at-check-scan = at-match-keys2.before in
-    let s = at-check-scan.before.before in
-    narrow-fresh _ s.args.self _ at-check-scan.check_scan-stand.ensures.checked_value c.in-Fine.is s.args.start s.args.end (omega (arith, c.end_Before.ensures, c.if-end_before-end.false))
+    narrow-fresh _ c.args.self _ c.check_scan-stand.ensures.checked_value c.in-Fine.is c.args.start c.args.end (omega (arith, c.end_before, .if-end_before-end.ensures, c.if-end_before-end.false))

@@ -10,4 +10,4 @@ returns-in-Refused c =
 
 pub returns-in-Fine : goal.returns-in-Fine
 returns-in-Fine c =
-    new-ready _ _ (was-fine _ _ c.check-checked.ensures c.in-Fine.is) c.end_Before.ensures
+    new-ready _ _ (was-fine _ _ c.check-checked.ensures c.in-Fine.is) c.end_before-end.ensures
