@@ -128,7 +128,7 @@ def relation(statement):
     for c in statement.replace('↔', '×').replace('<', '≤'):
         depth += (c in '([{') - (c in ')]}')
         flat += c if depth == 0 else ' '
-    front = re.match(r'(?:\S*\.)?(?:(Path)|_(\S+)_)\s', flat)
+    front = re.match(r'(?:\S*\.)?(?:(Path)|◌(\S+?)◌)\s', flat)
     infix = next((sign for sign in '→×⊎≡≤' if f' {sign} ' in flat), '')
     if front and infix not in ('→', '×', '⊎'):
         return '≡' if front[1] else front[2]
