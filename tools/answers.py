@@ -13,7 +13,7 @@ import re
 import sys
 
 WORD = r"[A-Za-z_][\w'₀₁-]*"
-norm = lambda it: re.sub(r'[-_]+', '-', it)
+norm = lambda it: re.sub(r'^is(?=place-in$)|-lem$', '', re.sub(r'[-_]+', '-', it).lower())
 
 
 def labels(crate, function):
@@ -30,8 +30,10 @@ def labels(crate, function):
             head = text[m.start():]
             end = re.search(r'\n *\{\n|\)(?: -> [^\n]*)? \{\n', head)
             head = head[:end.start() + 1] if end else head
-            return (re.findall(r'\brequires (\w+)? ?\{', head), re.findall(r'\bensures (\w+)? ?\{', head))
-    return ([], [])
+            given = re.match(r'fn \w+(?:<[^(]*>)?\((.*?)\)\s*(?:->|\n|\{)', head, re.S)
+            names = re.findall(r'(?:^|[,(]) *\n? *(?:mut )?(\w+)(?=:|,|$)', given[1]) if given else []
+            return (re.findall(r'\brequires (\w+)? ?\{', head), re.findall(r'\bensures (\w+)? ?\{', head), names)
+    return ([], [], [])
 
 
 def blocks(text):
@@ -68,7 +70,7 @@ def blocks(text):
 class Turned:
     def __init__(self, crate, function, names):
         self.crate, self.function, self.names = crate, function, names
-        self.requires, self.ensures = labels(crate, function)
+        self.requires, self.ensures, self.params = labels(crate, function)
         n = names
         self.needs = {norm(a): b for a, b in n['needs']}
         self.asks = {b: norm(at[0]) for (a, b), at in zip(n['needs'], n['asked_at'])}
@@ -130,6 +132,9 @@ class Turned:
         hidden = self.hidden(chain) if place else set()
         for i in chain:
             _, _, (old, new), _, subs = n['places'][i]
+            if ', .' in new:  # a call in a test: by either name
+                short = re.sub(r'-?\d+$', '', norm(old))
+                new = next((w for w in new.split(', .') if norm(w).startswith(short)), new.split(', .')[0])
             if old:
                 self.fields.setdefault(norm(old), new)
                 for a, b in subs:
@@ -168,7 +173,8 @@ class Turned:
                 return rest
         return [names[k]] + rest[at:]
 
-    def path(self, parts):
+    def path(self, parts, front=False):
+        """A path in today's names; a step's name stands at its front."""
         out, i = [], 0
         while i < len(parts):
             p, rest = parts[i], parts[i + 1:]
@@ -177,8 +183,12 @@ class Turned:
                     i += 1
                     continue
                 out.append(p)
-            elif p == 'fits' and rest and rest[0] != 'sfits':
+            elif p == 'fits' and rest and rest[0] in self.params and front and all(q == 'before' for q in parts[:i]):
                 out.append('ranges')
+            elif p == 'good' and front in ('place', 'call') and all(q == 'before' for q in parts[:i]):
+                out.append('well_formed')
+            elif p == 'ok' and i and not parts[i - 1].isdigit():
+                out.append('type_inv')
             elif p == 'pre':
                 out.append('requires')
                 return out + self.path(self.clause(self.requires, rest))
@@ -200,9 +210,9 @@ class Turned:
                     out += list(hit[0])
                     i += 1 + hit[1]
                     continue
-                if norm(p) in self.own and all(q == 'before' for q in parts[:i]):
+                if norm(p) in self.own and front and all(q == 'before' for q in parts[:i]):
                     out += list(self.own[norm(p)])
-                elif norm(p) in self.fields and all(q == 'before' for q in parts[:i]):
+                elif norm(p) in self.fields and front and all(q == 'before' for q in parts[:i]):
                     out.append(self.fields[norm(p)])
                     if rest[:1] == ['ensures'] and norm(p) in self.clauses:
                         out.append('ensures')
@@ -232,17 +242,26 @@ class Turned:
         if place:
             goal, _ = self.up(place, n)
             self.seen_from(place)
-            return '.'.join([var] + self.path(parts[n:]))
-        if var not in self.env and var != ')':
-            return '.'.join([var] + self.path(parts))
+            return '.'.join([var] + self.path(parts[n:], 'place'))
         self.seen_from(None)
-        return '.'.join([var] + self.path(parts))
+        first = parts[n] if n < len(parts) else ''
+        known = self.fields.get(norm(first), first)
+        return '.'.join([var] + self.path(parts, False if known == first + '-1' else 'call' if var == ')' else 'some'))
 
     def term(self, text):
         alias, same = {}, {'c'} if self.env.get('c') else set()
 
         def turn(m):
-            var, rest = m[1], m[2].split('.')[1:]
+            if m[1]:  # a let, which may name a place
+                value = self.read(m[3], m[4].split('.')[1:]) if m[4] else m[3]
+                if m[2]:
+                    self.env[m[1]] = self.helpers.get(m[2])
+                    return f"let {m[1]} = {m[2]} {value} in"
+                if self.env.get(m[3]):
+                    chain = self.chain(self.env[m[3]])
+                    self.env[m[1]] = norm(self.names['places'][chain[min(m[4].count('.'), len(chain) - 1)]][0])
+                return f"let {m[1]} = {value} in"
+            var, rest = m[5], m[6].split('.')[1:]
             if var in alias:
                 return '.'.join([var] + self.path(self.clause(alias[var], rest)))
             return self.read(var, rest)
@@ -264,18 +283,7 @@ class Turned:
                     continue
                 row = re.sub(r"(?<![\w.'-])(%s)(?![\w'₀₁-])" % WORD, lambda m: 'c' if m[1] in same else m[1], flat)
                 row = re.sub(r"(?<![\w.'-])c(?:\.before)+(?![\w.'-])", 'c', row)
-            was = None
-            for m in re.finditer(r"let (%s) = (%s)((?:\.before)*) in" % (WORD, WORD), row):
-                if m[2] in self.env and self.env[m[2]]:
-                    was = (m[1], self.up(self.env[m[2]], m[3].count('.'))[0])
-                elif m[2] in self.env:
-                    was = (m[1], None)
-            for m in re.finditer(r"let (%s) = (%s) (%s)((?:\.before)*) in" % (WORD, WORD, WORD), row):
-                if m[2] in self.helpers:
-                    was = (m[1], self.helpers[m[2]])
-            out.append(re.sub(r"((?<![\w.'-])%s|\))((?:\.[\w'-]+)+)" % WORD, turn, row))
-            if was:
-                self.env[was[0]] = was[1]
+            out.append(re.sub(r"let (%s) = (?:(%s) )?(%s)((?:\.before)*) in(?![\w'-])|((?<![\w.'-])%s|\))((?:\.[\w'-]+)+)" % (WORD, WORD, WORD, WORD), turn, row))
         return '\n'.join(out)
 
     def opened(self, whole):
@@ -363,6 +371,11 @@ class Turned:
         return (unf and unf[1], e and e[1].split(), e and eq[e.end():])
 
     def asked(self, new):
+        if new.endswith('-requires') or '-requires-' in new:
+            calls = [p[3] for p in self.names['places'] if p[3] and new.startswith(p[3].split('::')[-1] + '-')]
+            if calls and new not in self.names['asked']:
+                crate, *path = max(calls, key=lambda it: len(it.split('::')[-1])).split('::')
+                return [w for w in labels(crate, '.'.join(path))[0] if w]
         return self.names['asked'].get(new) or (self.ensures if new.startswith('returns') and len(self.ensures) > 1 else [])
 
     def answer(self, new, pars, body):
@@ -420,8 +433,19 @@ class Turned:
             return None
         head, decls = blocks(text)
         self.used = set()
-        self.walks = any(re.match(r"(?:abbrev |pub )*\S+ :.*tie\.(?!Need-|invariant-|decreases-|close)", '\n'.join(l for l in b if not l.startswith('--')), re.S)
-                         for b in decls if 'tie.close' not in '\n'.join(b))
+        self.walks = False
+        for b in decls:
+            code = [l for l in b if not l.startswith('--')]
+            whole = '\n'.join(code)
+            if 'tie.close' in whole:
+                continue
+            m = re.match(r"(?:pub )?(\S+) : tie\.Need-(\S+)", whole)
+            if re.search(r"tie\.(?!Need-|invariant-|decreases-)", whole):
+                self.walks = True  # a lemma over places
+            elif m and self.goal(norm(m[2])) and self.split(m[1], code)[1] is not None:
+                names, body = self.asked(self.goal(norm(m[2]))), self.split(m[1], code)[2]
+                if len([n for n in names if n]) > 1 and not re.fullmatch(r"\s*search (rules|needs)\s*", body) and self.record(body.split('\n  where')[0], names) == body.split('\n  where')[0]:
+                    self.walks = True  # a lemma says all clauses at once
         if self.walks:
             return self.walk(path, head, decls)
         invariants, answers, inv_words = [], [], set()

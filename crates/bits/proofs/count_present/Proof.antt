@@ -43,7 +43,7 @@ cast-result : tie.Need-overflow_cast-result
 cast-result c = record { fits = omega (arith, most c) }
 
 add-result : tie.Need-overflow_add-result
-add-result c = record { fits = omega (arith, most c, c.before.count_words-whole.ensures.1, there-lt c.before.before) }
+add-result c = record { fits = omega (arith, most c, c.count_words-whole.ensures.1, there-lt c.before.before) }
 
 returns : tie.Need-returns
 returns c =
@@ -51,8 +51,8 @@ returns c =
     let r = n.before in
     let s = r.before in
     ap (λ x. n.count_words-whole.result + ones (bit_and x (1 * 2 ^ bit_and (there r) 63 % 18446744073709551616 - 1))) c.word.ensures
-    ∙ count-rest s.before.args.bytes.now (there r) n.count_words-whole.result (λ k. (s.shared_slice_known-1.given k).fits) n.count_words-whole.ensures.0
-    ∙ count_past s.before.args.bytes.now s.before.args.count (there r) r.reach-there.ensures
+    ∙ count-rest s.args.bytes.now (there r) n.count_words-whole.result (λ k. (s.shared_slice_known-1.given k).fits) n.count_words-whole.ensures.0
+    ∙ count_past s.args.bytes.now s.args.count (there r) r.reach-there.ensures
 
 pub count_present_spec : {M : Type 1} → statement M
 count_present_spec = tie.close (tie.spec reach-requires count-words-requires shl-mask sub-mask mul-word word-requires cast-result add-result returns)

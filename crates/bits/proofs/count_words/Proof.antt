@@ -47,14 +47,14 @@ loop-again c =
       omega arith,
       omega (arith, most c),
       ap (λ x. l.loop-k.ones + ones x) c.full_word.ensures
-          ∙ count_word s.before.args.bytes.now l.loop-k.k l.loop-k.ones (λ k. (s.shared_slice_known-1.given k).fits) l.loop-k.invariant.2,
+          ∙ count_word s.args.bytes.now l.loop-k.k l.loop-k.ones (λ k. (s.shared_slice_known-1.given k).fits) l.loop-k.invariant.2,
     )
 
 returns : tie.Need-returns invariant-loop decreases-loop
 returns c =
     let l = c.before in
-    let e : l.loop-k.k ≡ l.before.before.args.words = omega arith in
-    (l.loop-k.invariant.2 ∙ ap (λ x. count_for (present l.before.before.args.bytes.now) 0 (64 * x)) e, omega arith)
+    let e : l.loop-k.k ≡ l.args.words = omega arith in
+    (l.loop-k.invariant.2 ∙ ap (λ x. count_for (present l.args.bytes.now) 0 (64 * x)) e, omega arith)
 
 pub count_words_spec : {M : Type 1} → statement M
 count_words_spec = tie.close (tie.spec invariant-loop decreases-loop loop-holds mul-full-word full-word-requires cast-ones add-ones add-k loop-less loop-again returns)

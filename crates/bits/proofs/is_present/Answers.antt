@@ -16,5 +16,4 @@ overflow_shr-result c = omega (arith, mask_lt c.args.i 3)
 pub returns : goal.returns
 unfolding present
 returns c =
-    let s = c.before.before in
-    ap (λ x. eqb (bit_and (x / 2 ^ bit_and s.args.i 7) 1) 1) c.byte_at-byte.ensures.0 ∙ tested (get_or s.args.bytes.now (s.args.i / 8) 0) s.args.i
+    ap (λ x. eqb (bit_and (x / 2 ^ bit_and c.args.i 7) 1) 1) c.byte_at-byte.ensures.0 ∙ tested (get_or c.args.bytes.now (c.args.i / 8) 0) c.args.i

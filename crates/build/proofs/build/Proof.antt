@@ -37,20 +37,20 @@ returns-3 : tie.Need-returns-then-starts-n
 returns-3 c =
     let k = c.before.before in
     let s = k.before.before.before in
-    (build-starts (values s) (starts s) (ends s) (steps s) k.count_runs-n.result k.count_runs-n.ensures k.before.if-values-gt4294967295.false c.before.if-n-gt4096.false c.if-starts-n.true, (refl, (refl, refl)))
+    (build-starts (values s) (starts s) (ends s) (steps s) k.count_runs-n.result k.count_runs-n.ensures k.if-values-gt4294967295.false c.if-n-gt4096.false c.if-starts-n.true, (refl, (refl, refl)))
 
 returns-4 : tie.Need-returns-then-ends-n
 returns-4 c =
     let k = c.before.before.before in
     let s = k.before.before.before in
-    (build_ends (values s) (starts s) (ends s) (steps s) k.count_runs-n.result k.count_runs-n.ensures k.before.if-values-gt4294967295.false c.before.before.if-n-gt4096.false c.before.if-starts-n.false c.if-ends-n.true, (refl, (refl, refl)))
+    (build_ends (values s) (starts s) (ends s) (steps s) k.count_runs-n.result k.count_runs-n.ensures k.if-values-gt4294967295.false c.if-n-gt4096.false c.if-starts-n.false c.if-ends-n.true, (refl, (refl, refl)))
 
 returns-5 : tie.Need-returns-then-steps-n
 returns-5 c =
     let few = c.before.before.before in
     let k = few.before in
     let s = k.before.before.before in
-    (build_steps (values s) (starts s) (ends s) (steps s) k.count_runs-n.result k.count_runs-n.ensures k.before.if-values-gt4294967295.false few.if-n-gt4096.false c.before.before.if-starts-n.false c.before.if-ends-n.false c.if-steps-n.true, (refl, (refl, refl)))
+    (build_steps (values s) (starts s) (ends s) (steps s) k.count_runs-n.result k.count_runs-n.ensures k.if-values-gt4294967295.false few.if-n-gt4096.false c.if-starts-n.false c.if-ends-n.false c.if-steps-n.true, (refl, (refl, refl)))
 
 write-runs-requires : tie.Need-write_runs-requires
 write-runs-requires c κs = search rules
@@ -74,15 +74,15 @@ returns-6 c =
     let k = few.before in
     let s = k.before.before.before in
     let n = k.count_runs-n.ensures in
-    let m = count-is (values s) (starts s) (ends s) (steps s) k.count_runs-n.result n k.before.if-values-gt4294967295.false few.if-n-gt4096.false in
+    let m = count-is (values s) (starts s) (ends s) (steps s) k.count_runs-n.result n k.if-values-gt4294967295.false few.if-n-gt4096.false in
     let col = built_from (values s) in
-    let l1 : length col.starts-1 ≤ starts s = omega (arith, length-map (runs_of (values s)) (λ (r : Run). r.start), m, e.before.before.if-starts-n.false) in
-    let l2 : length col.ends-1 ≤ ends s = omega (arith, runs-are (runs_of (values s)), m, e.before.if-ends-n.false) in
-    let l3 : length col.steps-1 ≤ steps s = omega (arith, length-map (runs_of (values s)) (λ (r : Run). r.step), m, e.if-steps-n.false) in (
-      build-fine (values s) (starts s) (ends s) (steps s) k.count_runs-n.result n k.before.if-values-gt4294967295.false few.if-n-gt4096.false e.before.before.if-starts-n.false e.before.if-ends-n.false e.if-steps-n.false,
+    let l1 : length col.starts ≤ starts s = omega (arith, length-map (runs_of (values s)) (λ (r : Run). r.start), m, e.if-starts-n.false) in
+    let l2 : length col.ends ≤ ends s = omega (arith, runs-are (runs_of (values s)), m, e.if-ends-n.false) in
+    let l3 : length col.steps ≤ steps s = omega (arith, length-map (runs_of (values s)) (λ (r : Run). r.step), m, e.if-steps-n.false) in (
+      build-fine (values s) (starts s) (ends s) (steps s) k.count_runs-n.result n k.if-values-gt4294967295.false few.if-n-gt4096.false e.if-starts-n.false e.if-ends-n.false e.if-steps-n.false,
       (
-        w.write_runs.ensures.0 ∙ filled col.starts-1 s.args.starts.now l1,
-        (w.write_runs.ensures.1.0 ∙ filled col.ends-1 s.args.ends.now l2, w.write_runs.ensures.1.1 ∙ filled col.steps-1 s.args.steps.now l3),
+        w.write_runs.ensures.0 ∙ filled col.starts s.args.starts.now l1,
+        (w.write_runs.ensures.1.0 ∙ filled col.ends s.args.ends.now l2, w.write_runs.ensures.1.1 ∙ filled col.steps s.args.steps.now l3),
       ),
     )
 

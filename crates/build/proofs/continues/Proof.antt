@@ -13,9 +13,9 @@ start c = c.before.before.before
 wrapped : (c : tie.After-wrapping_sub_u64) → (c.wrapping_sub_u64.result + of_signed 8 (start c).args.previous) % 18446744073709551616 ≡ of_signed 8 (start c).args.current
 wrapped c =
     let s = start c in
-    ap (λ n. (c.wrapping_sub_u64.result + n) % 18446744073709551616) (ap (of_signed 8) (sym (to_z-of_z s.ranges.previous)) ∙ sym c.before.unsigned64-2.ensures)
+    ap (λ n. (c.wrapping_sub_u64.result + n) % 18446744073709551616) (ap (of_signed 8) (sym (to_z-of_z s.ranges.previous)) ∙ sym c.unsigned64-2.ensures)
     ∙ c.wrapping_sub_u64.ensures
-    ∙ c.before.before.unsigned64.ensures
+    ∙ c.unsigned64.ensures
     ∙ ap (of_signed 8) (to_z-of_z s.ranges.current)
 
 -- the step's pattern

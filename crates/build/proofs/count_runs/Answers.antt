@@ -13,17 +13,15 @@ returns-then-n-eq4097 c = let l = c.loop-i in omega (arith, c.if-n-eq4097.true, 
 
 pub loop-i-smaller : goal.loop-i-smaller
 loop-i-smaller c =
-    let i = c.before.before in
-    omega (arith, c.run_at-run.ensures.end_value, c.run_at-run.ensures.end_in_bounds, i.loop-i-test.true, first_some i.args.values.now i.loop-i.i)
+    omega (arith, c.run_at-run.ensures.end_value, c.run_at-run.ensures.end_in_bounds, c.loop-i-test.true, first_some c.args.values.now c.loop-i.i)
 
 pub loop-i-preserved : goal.loop-i-preserved
 loop-i-preserved c =
-    let i = c.before.before in
-    let l = i.loop-i in
-    let values = i.args.values.now in (
+    let l = c.loop-i in
+    let values = c.args.values.now in (
       omega (arith, c.if-n-eq4097.false),
       c.run_at-run.ensures.end_in_bounds,
-      count-more values l.n l.i l.invariant.2 c.run_at-run.result.end i.loop-i-test.true c.run_at-run.ensures.end_value,
+      count-more values l.n l.i l.invariant.2 c.run_at-run.result.end c.loop-i-test.true c.run_at-run.ensures.end_value,
     )
 
 pub returns : goal.returns

@@ -45,16 +45,16 @@ is l = rw (to_z-of_z (start l).ranges.step) at l.loop-i.invariant.2
 wrapped : (c : tie.After-wrapping_sub_u64 invariant-loop decreases-loop) → (c.wrapping_sub_u64.result + of_signed 8 (last (here c))) % 18446744073709551616 ≡ of_signed 8 (value (here c))
 wrapped c =
     let there = c.before.before.before in
-    ap (λ n. (c.wrapping_sub_u64.result + n) % 18446744073709551616) (ap (of_signed 8) (sym (back w64 (last (here c)) c.before.before.unsigned64-arg-in-loop-i-1.given)) ∙ sym c.before.unsigned64-in-loop-i.ensures)
+    ap (λ n. (c.wrapping_sub_u64.result + n) % 18446744073709551616) (ap (of_signed 8) (sym (back w64 (last (here c)) c.unsigned64-arg-in-loop-i-1.given)) ∙ sym c.unsigned64-in-loop-i.ensures)
     ∙ c.wrapping_sub_u64.ensures
     ∙ there.unsigned64.ensures
-    ∙ ap (of_signed 8) (back w64 (value (here c)) there.before.unsigned64-arg-1.given)
+    ∙ ap (of_signed 8) (back w64 (value (here c)) there.unsigned64-arg-1.given)
 
 -- the value at i is an i64
 first-given : (c : tie.After-wrapping_sub_u64 invariant-loop decreases-loop) → mag (value (here c)) < half64
-first-given c = let one = c.before.before.before in one.before.unsigned64-arg-1.given
+first-given c = let one = c.before.before.before in one.unsigned64-arg-1.given
 
-of-step : (c : tie.After-unsigned64-difference invariant-loop decreases-loop) → c.unsigned64-difference.result ≡ of_signed 8 c.before.args.step
+of-step : (c : tie.After-unsigned64-difference invariant-loop decreases-loop) → c.unsigned64-difference.result ≡ of_signed 8 c.args.step
 of-step c =
     let s = c.before in
     c.unsigned64-difference.ensures ∙ ap (of_signed 8) (rw (to_z-of_z s.ranges.step) (back w64 s.args.step (omega (arith, s.ranges.step.sfits))))
@@ -103,7 +103,7 @@ returns c =
     let l = here c.before in
     let a = (start l).args in
     let w = c.before in
-    let other = other_step (last l) (value l) w.before.before.unsigned64-arg-in-loop-i-1.given (first-given w) w.wrapping_sub_u64.result w.wrapping_sub_u64.type_inv (wrapped w) a.step
+    let other = other_step (last l) (value l) w.unsigned64-arg-in-loop-i-1.given (first-given w) w.wrapping_sub_u64.result w.wrapping_sub_u64.type_inv (wrapped w) a.step
     (λ e. c.if-wrapping_sub_u64-difference.true (e ∙ sym (of-step l.before))) in
     let e = open-parted a.values.now a.a a.step l.loop-i.i l.loop-i.invariant.0 (in-loop w).loop-i-test.true (sym other) in
     (omega (arith, ap (λ (r : Run). r.count) (is l), e, l.loop-i.invariant.0), l.loop-i.invariant.1)
@@ -121,8 +121,8 @@ loop-again c =
     let w = c.before in
     let i = in-loop w in
     let k : l.loop-i.i + 1 - 1 ≡ l.loop-i.i = omega arith in
-    let on = inside-step (last l) (value l) w.before.before.unsigned64-arg-in-loop-i-1.given (first-given w) w.wrapping_sub_u64.result w.wrapping_sub_u64.type_inv (wrapped w) a.step (start l).ranges.step.sfits
-    (omega (arith, l.loop-i.invariant.3, l.loop-i.invariant.1, (start l).pre.1.0)) (omega (arith, l.loop-i.invariant.4, l.loop-i.invariant.1, (start l).pre.1.0)) (c.if-wrapping_sub_u64-difference.false ∙ of-step l.before) in (
+    let on = inside-step (last l) (value l) w.unsigned64-arg-in-loop-i-1.given (first-given w) w.wrapping_sub_u64.result w.wrapping_sub_u64.type_inv (wrapped w) a.step (start l).ranges.step.sfits
+    (omega (arith, l.loop-i.invariant.3, l.loop-i.invariant.1, (start l).requires.1.0)) (omega (arith, l.loop-i.invariant.4, l.loop-i.invariant.1, (start l).requires.1.0)) (c.if-wrapping_sub_u64-difference.false ∙ of-step l.before) in (
       omega (arith, l.loop-i.invariant.0),
       omega (arith, i.loop-i-test.true),
       rw (to_z-of_z (start l).ranges.step) (is l ∙ open_more a.values.now a.a a.step l.loop-i.i l.loop-i.invariant.0 i.loop-i-test.true on.0),

@@ -30,13 +30,13 @@ value l i = value_at l.before.args.values.now i
 -- the call's answer, and the invariant, at the numbers themselves
 told : (c : tie.After-continues invariant-loop decreases-loop) → c.continues.result ≡ same_z (value (here c) (here c).loop-i.i -ℤ value (here c) ((here c).loop-i.i - 1)) (here c).before.args.step
 told c = rw (
-  back w64 (value (here c) ((here c).loop-i.i - 1)) c.before.before.continues-arg-1.given,
-  back w64 (value (here c) (here c).loop-i.i) c.before.continues-arg-in-loop-i-1.given,
+  back w64 (value (here c) ((here c).loop-i.i - 1)) c.continues-arg-1.given,
+  back w64 (value (here c) (here c).loop-i.i) c.continues-arg-in-loop-i-1.given,
   to_z-of_z (here c).before.ranges.step,
 ) at c.continues.ensures
 
-is : (c : tie.At-loop-i invariant-loop decreases-loop) → open_at c.before.args.values.now c.before.args.a c.before.args.step (c.before.args.a + 2) ≡ open_at c.before.args.values.now c.before.args.a c.before.args.step c.loop-i.i
-is c = rw (to_z-of_z c.before.ranges.step) at c.loop-i.invariant.2
+is : (c : tie.At-loop-i invariant-loop decreases-loop) → open_at c.args.values.now c.args.a c.args.step (c.args.a + 2) ≡ open_at c.args.values.now c.args.a c.args.step c.loop-i.i
+is c = rw (to_z-of_z c.ranges.step) at c.loop-i.invariant.2
 
 add-i : tie.Need-overflow_add-i invariant-loop decreases-loop
 add-i c = search rules
@@ -65,7 +65,7 @@ continues-requires c κs = search rules
 returns : tie.Need-returns-then-not-continues invariant-loop decreases-loop
 returns c =
     let l = here c.before in
-    let a = l.before.args in
+    let a = l.args in
     let e = open-parted a.values.now a.a a.step l.loop-i.i l.loop-i.invariant.0 (in-loop c.before).loop-i-test.true (sym (told c.before) ∙ not-no _ c.if-not-continues.true-raw) in
     (omega (arith, ap (λ (r : Run). r.count) (is l), e, l.loop-i.invariant.0), l.loop-i.invariant.1)
 
@@ -78,17 +78,17 @@ loop-less c = search rules
 loop-again : tie.Need-loop-i-preserved invariant-loop decreases-loop
 loop-again c =
     let l = here c.before in
-    let a = l.before.args in
+    let a = l.args in
     let i = in-loop c.before in (
       omega (arith, l.loop-i.invariant.0),
       omega (arith, i.loop-i-test.true),
-      rw (to_z-of_z l.before.ranges.step) (is l ∙ open_more a.values.now a.a a.step l.loop-i.i l.loop-i.invariant.0 i.loop-i-test.true (sym (told c.before) ∙ not-false _ c.if-not-continues.false-raw)),
+      rw (to_z-of_z l.ranges.step) (is l ∙ open_more a.values.now a.a a.step l.loop-i.i l.loop-i.invariant.0 i.loop-i-test.true (sym (told c.before) ∙ not-false _ c.if-not-continues.false-raw)),
     )
 
 returns-2 : tie.Need-returns invariant-loop decreases-loop
 returns-2 c =
     let l = c.before in
-    let a = l.before.args in
+    let a = l.args in
     let e = open_done a.values.now a.a a.step l.loop-i.i l.loop-i.invariant.0 c.loop-i-test.false in
     (omega (arith, ap (λ (r : Run). r.count) (is l), e, l.loop-i.invariant.0), l.loop-i.invariant.1)
 

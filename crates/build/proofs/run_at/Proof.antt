@@ -29,46 +29,46 @@ close c = c.before.before.before
 
 -- the first two values of the run
 abbrev one : tie.Else-next-values → ℤ
-one c = value_at (values c.before) c.before.args.a
+one c = value_at (values c.before) c.args.a
 
 abbrev two : tie.Else-next-values → ℤ
-two c = value_at (values c.before) (c.before.args.a + 1)
+two c = value_at (values c.before) (c.args.a + 1)
 
 -- what the two calls tell, at the numbers themselves
 found : (c : tie.After-near-shifted) → fits_in half16 (two (two-there c) -ℤ one (two-there c)) ≡ true → (c.near-shifted.result ≤ 65535) × (unkey half16 c.near-shifted.result ≡ two (two-there c) -ℤ one (two-there c))
-found c = rw (back w64 (one (two-there c)) c.before.before.near-arg-1.given, back w64 (two (two-there c)) c.before.near-arg-2-1.given) at c.near-shifted.ensures
+found c = rw (back w64 (one (two-there c)) c.near-arg-1.given, back w64 (two (two-there c)) c.near-arg-2-1.given) at c.near-shifted.ensures
 
 -- the step, where it may be one
 abbrev step : tie.Else-shifted-gt65535 → ℤ
-step c = unkey half16 c.before.near-shifted.result
+step c = unkey half16 c.near-shifted.result
 
 small : (c : tie.Else-shifted-gt65535) → mag (step c) < half16
-small c = mag-unkey half16 c.before.near-shifted.result (omega (arith, c.if-shifted-gt65535.false))
+small c = mag-unkey half16 c.near-shifted.result (omega (arith, c.if-shifted-gt65535.false))
 
-widened : (c : tie.Else-shifted-gt65535) → to_z w64 c.before.near-shifted.result -ℤ pos 32768 ≡ step c
-widened c = ap (λ z. z -ℤ pos 32768) (to_z_pos w64 {n = c.before.near-shifted.result} (omega (arith, c.if-shifted-gt65535.false)))
+widened : (c : tie.Else-shifted-gt65535) → to_z w64 c.near-shifted.result -ℤ pos 32768 ≡ step c
+widened c = ap (λ z. z -ℤ pos 32768) (to_z_pos w64 {n = c.near-shifted.result} (omega (arith, c.if-shifted-gt65535.false)))
 
-cast_is : (c : tie.Else-shifted-gt65535) → to_z w64 (of_z w64 (to_z w64 c.before.near-shifted.result -ℤ pos 32768)) ≡ step c
+cast_is : (c : tie.Else-shifted-gt65535) → to_z w64 (of_z w64 (to_z w64 c.near-shifted.result -ℤ pos 32768)) ≡ step c
 cast_is c = rw (widened c) (back w64 (step c) (omega (arith, small c)))
 
-step_is : (c : tie.Else-shifted-gt65535) → to_z w16 (of_z w16 (to_z w64 (of_z w64 (to_z w64 c.before.near-shifted.result -ℤ pos 32768)))) ≡ step c
+step_is : (c : tie.Else-shifted-gt65535) → to_z w16 (of_z w16 (to_z w64 (of_z w64 (to_z w64 c.near-shifted.result -ℤ pos 32768)))) ≡ step c
 step_is c = rw (cast_is c) (back w16 (step c) (small c))
 
 told : (c : tie.After-continues) → c.continues.result ≡ same_z (two (two-there (close c).before) -ℤ one (two-there (close c).before)) (step (close c))
 told c =
     let d = two-there (close c).before in
-    rw (back w64 (one d) c.before.before.continues-arg-1.given, back w64 (two d) c.before.continues-arg-2-1.given, step_is (close c)) at c.continues.ensures
+    rw (back w64 (one d) c.continues-arg-1.given, back w64 (two d) c.continues-arg-2-1.given, step_is (close c)) at c.continues.ensures
 
 -- there is a second value
-second : (c : tie.Else-next-values) → c.before.args.a + 1 < length (values c.before)
-second c = omega (arith, c.before.pre.0, c.if-next-values.false)
+second : (c : tie.Else-next-values) → c.args.a + 1 < length (values c.before)
+second c = omega (arith, c.requires.0, c.if-next-values.false)
 
 -- it has no step: the run is this one value
 alone : (c : tie.Else-next-values) → fits_in half16 (two c -ℤ one c) ≡ false
-    → (c.before.args.a + 1 ≡ c.before.args.a + (first_at (values c.before) c.before.args.a).count)
-    × ((pos 0 ≡ (first_at (values c.before) c.before.args.a).step) × (c.before.args.a + 1 ≤ length (values c.before)))
+    → (c.args.a + 1 ≡ c.args.a + (first_at (values c.before) c.args.a).count)
+    × ((pos 0 ≡ (first_at (values c.before) c.args.a).step) × (c.args.a + 1 ≤ length (values c.before)))
 alone c h =
-    let a = c.before.args.a in
+    let a = c.args.a in
     let e : first_at (values c.before) a ≡ begun (value_at (values c.before) a) = first_alone (values c.before) a (second c) h in
     (omega (arith, ap (λ (r : Run). r.count) e), (sym (ap (λ (r : Run). r.step) e), omega (arith, second c)))
 
@@ -77,7 +77,7 @@ add-next c = search rules
 
 returns : tie.Need-returns-then-next-values
 returns c =
-    let a = c.before.args in
+    let a = c.args in
     let e : first_at (values c.before) a.a ≡ begun (value_at (values c.before) a.a) = first-last (values c.before) a.a (omega (arith, c.if-next-values.true)) in
     (omega (arith, ap (λ (r : Run). r.count) e), (sym (ap (λ (r : Run). r.step) e), omega (arith, c.if-next-values.true)))
 
@@ -143,11 +143,11 @@ returns-4 c =
     let k = close on.before in
     let d = two-there k.before in
     let xs = values d.before in
-    let a = d.before.args.a in
+    let a = d.args.a in
     let is : step k ≡ two d -ℤ one d = sym (same-yes (two d -ℤ one d) (step k) (sym (told on.before) ∙ not-false _ on.if-not-continues.false-raw)) in
     let e : first_at xs a ≡ open_at xs a (step k) (a + 2) = first_two xs a (second d) (step k) is (in-mag half16 (step k) ∙ lt-ltb (mag (step k)) half16 (small k)) in (
-      rw (step_is k, sym e) at c.end_of_lem.ensures.0,
-      (step_is k ∙ sym (open_step xs a (step k) (a + 2) (omega arith)) ∙ sym (ap (λ (r : Run). r.step) e), c.end_of_lem.ensures.1),
+      rw (step_is k, sym e) at c.end_of-end.ensures.0,
+      (step_is k ∙ sym (open_step xs a (step k) (a + 2) (omega arith)) ∙ sym (ap (λ (r : Run). r.step) e), c.end_of-end.ensures.1),
     )
 
 pub run_at_spec : {M : Type 1} → statement M

@@ -21,22 +21,22 @@ abbrev decreases-loop : tie.decreases-loop-i
 decreases-loop values starts₀ ends₀ steps₀ n₀ i₀ starts ends steps n i = length values - i
 
 -- the lengths are as they were
-long-starts : (c : tie.At-loop-i invariant-loop decreases-loop) → length c.loop-i.starts ≡ length c.before.before.args.starts.now
+long-starts : (c : tie.At-loop-i invariant-loop decreases-loop) → length c.loop-i.starts ≡ length c.args.starts.now
 long-starts c = ap length c.loop-i.invariant.1 ∙ simp length-sets
 
-long-ends : (c : tie.At-loop-i invariant-loop decreases-loop) → length c.loop-i.ends ≡ length c.before.before.args.ends.now
+long-ends : (c : tie.At-loop-i invariant-loop decreases-loop) → length c.loop-i.ends ≡ length c.args.ends.now
 long-ends c = ap length c.loop-i.invariant.2 ∙ simp length-sets
 
-long-steps : (c : tie.At-loop-i invariant-loop decreases-loop) → length c.loop-i.steps ≡ length c.before.before.args.steps.now
+long-steps : (c : tie.At-loop-i invariant-loop decreases-loop) → length c.loop-i.steps ≡ length c.args.steps.now
 long-steps c = ap length c.loop-i.invariant.3 ∙ simp length-sets
 
 -- there is a next run
-there : (c : tie.In-loop-i invariant-loop decreases-loop) → c.before.loop-i.n < length (runs_of c.before.before.before.args.values.now)
-there c = next-there c.before.before.before.args.values.now c.before.loop-i.n c.before.loop-i.i c.before.loop-i.invariant.0 c.loop-i-test.true
+there : (c : tie.In-loop-i invariant-loop decreases-loop) → c.loop-i.n < length (runs_of c.args.values.now)
+there c = next-there c.args.values.now c.loop-i.n c.loop-i.i c.loop-i.invariant.0 c.loop-i-test.true
 
 loop-holds : tie.Need-loop-i-init invariant-loop decreases-loop
 unfolding joined
-loop-holds c = (passed_none c.before.args.values.now, refl, refl, refl)
+loop-holds c = (passed_none c.args.values.now, refl, refl, refl)
 
 run-at-requires : tie.Need-run_at-run-requires invariant-loop decreases-loop
 run-at-requires c κs = search rules
@@ -51,41 +51,41 @@ mul-t14 : tie.Need-offset_bounds-starts-n invariant-loop decreases-loop
 mul-t14 c = search rules
 
 slice-set-from-starts : tie.Need-bounds-starts-n invariant-loop decreases-loop
-slice-set-from-starts c = let i = c.before.before.before in omega (arith, long-starts i.before, there i, i.before.before.before.requires.1.0)
+slice-set-from-starts c = let i = c.before.before.before in omega (arith, long-starts i.before, there i, i.requires.1.0)
 
 mul-ends : tie.Need-offset_bounds-ends-n invariant-loop decreases-loop
 mul-ends c = search rules
 
 slice-write-ends : tie.Need-bounds-ends-n invariant-loop decreases-loop
-slice-write-ends c = let i = c.before.before.before in omega (arith, long-ends i.before, there i, i.before.before.before.requires.1.1)
+slice-write-ends c = let i = c.before.before.before in omega (arith, long-ends i.before, there i, i.requires.1.1)
 
 mul-step : tie.Need-offset_bounds-steps-n invariant-loop decreases-loop
 mul-step c = search rules
 
 slice-set-from-step : tie.Need-bounds-steps-n invariant-loop decreases-loop
-slice-set-from-step c = let i = c.before.before.before in omega (arith, long-steps i.before, there i, i.before.before.before.requires.1.2)
+slice-set-from-step c = let i = c.before.before.before in omega (arith, long-steps i.before, there i, i.requires.1.2)
 
 add-n : tie.Need-overflow_add-n invariant-loop decreases-loop
-add-n c = let i = c.before.before.before in omega (arith, long-starts i.before, there i, i.before.before.before.requires.1.0, long-ends i.before)
+add-n c = let i = c.before.before.before in omega (arith, long-starts i.before, there i, i.requires.1.0, long-ends i.before)
 
 loop-less : tie.Need-loop-i-smaller invariant-loop decreases-loop
 loop-less c =
     let r = c.before.before in
     let i = r.before in
-    omega (arith, r.run_at-run.ensures.0, r.run_at-run.ensures.1.1, i.loop-i-test.true, first_some i.before.before.before.args.values.now i.before.loop-i.i)
+    omega (arith, r.run_at-run.ensures.0, r.run_at-run.ensures.1.1, i.loop-i-test.true, first_some i.args.values.now i.loop-i.i)
 
 loop-again : tie.Need-loop-i-preserved invariant-loop decreases-loop
 loop-again c =
     let r = c.before.before in
     let i = r.before in
-    let l = i.before.loop-i in
+    let l = i.loop-i in
     let s = i.before.before.before in
     let values = s.args.values.now in
     let t = i.loop-i-test.true in (
       passed-more values l.n l.i l.invariant.0 t r.run_at-run.result.end r.run_at-run.ensures.0 r.run_at-run.ensures.1.1,
-      each_more (start_of (built_from values)) l.starts-1 s.args.starts.now l.n _ l.invariant.1 (back w64 _ c.starts-1.given ∙ next_start values l.n l.i l.invariant.0 t),
+      each_more (start_of (built_from values)) l.starts s.args.starts.now l.n _ l.invariant.1 (back w64 _ c.starts-1.given ∙ next_start values l.n l.i l.invariant.0 t),
       each_more (end_of (built_from values)) l.ends s.args.ends.now l.n _ l.invariant.2 (next-end values l.n l.i l.invariant.0 t r.run_at-run.result.end r.run_at-run.ensures.0),
-      each_more (step_of (built_from values)) l.steps s.args.steps.now l.n _ l.invariant.3 (back w16 r.run_at-run.result.step c.before.struct_told-1.given.1.0.1 ∙ r.run_at-run.ensures.1.0 ∙ next-step values l.n l.i l.invariant.0 t),
+      each_more (step_of (built_from values)) l.steps s.args.steps.now l.n _ l.invariant.3 (back w16 r.run_at-run.result.step c.struct_told-1.given.1.0.1 ∙ r.run_at-run.ensures.1.0 ∙ next-step values l.n l.i l.invariant.0 t),
     )
 
 same_length : tie.Need-shape_of-starts invariant-loop decreases-loop
@@ -99,8 +99,8 @@ same-length-3 c = long-steps c.before
 
 returns : tie.Need-returns invariant-loop decreases-loop
 returns c =
-    let l = c.before.loop-i in
-    let values = c.before.before.before.args.values.now in
+    let l = c.loop-i in
+    let values = c.args.values.now in
     let e = passed-done values l.n l.i l.invariant.0 c.loop-i-test.false in
     (rw (starts-all values l.n e) at l.invariant.1, (rw (ends-all values l.n e) at l.invariant.2, rw (steps_all values l.n e) at l.invariant.3))
 

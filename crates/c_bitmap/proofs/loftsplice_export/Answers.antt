@@ -6,8 +6,7 @@ use Rattle.c_bitmap.proofs.loftsplice_export.Goals as goal
 
 pub returns : goal.returns
 returns c =
-    let at_out = c.before in
-    let r = at_out.export-answer in
+    let r = c.export-answer in
     record {
   value = c.flat_exported.ensures ∙ ap flat_exported r.ensures.0;
   leaves = rw r.ensures.0 at r.ensures.1;

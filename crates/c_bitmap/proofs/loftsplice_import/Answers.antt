@@ -6,8 +6,7 @@ use Rattle.c_bitmap.proofs.loftsplice_import.Goals as goal
 
 pub returns : goal.returns
 returns c =
-    let at-flat = c.before.before.before in
-    let r = at-flat.import-answer in record {
+    let r = c.import-answer in record {
   value = c.flat_imported.ensures ∙ ap flat_imported r.ensures.0;
   leaves = rw r.ensures.0 at r.ensures.1.0;
   leaves_2 = rw r.ensures.0 at r.ensures.1.1.0;

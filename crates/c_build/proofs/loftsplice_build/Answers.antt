@@ -6,8 +6,7 @@ use Rattle.c_build.proofs.loftsplice_build.Goals as goal
 
 pub returns : goal.returns
 returns c =
-    let at-flat = c.before.before.before in
-    let r = at-flat.build-answer in record {
+    let r = c.build-answer in record {
   value = c.flat_built.ensures ∙ ap flat_built r.ensures.0;
   leaves = rw r.ensures.0 at r.ensures.1.0;
   leaves_2 = rw r.ensures.0 at r.ensures.1.1.0;

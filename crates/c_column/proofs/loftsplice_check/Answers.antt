@@ -10,5 +10,4 @@ returns-in-Fine c = carried says_checked refusal_in c.check-checked.ensures c.in
 
 pub returns-in-Refused : goal.returns-in-Refused
 returns-in-Refused c =
-    let at-match = c.before.before in
-    rw c.number.ensures (carried says_checked refusal_in at-match.check-checked.ensures at-match.in-Refused.is)
+    rw c.number.ensures (carried says_checked refusal_in c.check-checked.ensures c.in-Refused.is)

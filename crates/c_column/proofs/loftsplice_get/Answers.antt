@@ -9,9 +9,8 @@ use borrow.Author.Rules.{rules}
 use Rattle.c_column.proofs.loftsplice_get.Goals as goal
 
 pub returns-in-Value : goal.returns-in-Value
-returns-in-Value c = rw (back w64 _ c.known_told-1.given.0.1) (carried says_got (λ s. flat_answer (answered s)) c.get-answer.ensures c.in-Value.is)
+returns-in-Value c = rw (back w64 _ c.in-Value.known_told-1-own.given.0.1) (carried says_got (λ s. flat_answer (answered s)) c.get-answer.ensures c.in-Value.is)
 
 pub returns-in-Refused : goal.returns-in-Refused
 returns-in-Refused c =
-    let at-match = c.before.before in
-    rw c.number.ensures (carried says_got (λ s. flat_answer (answered s)) at-match.get-answer.ensures at-match.in-Refused.is)
+    rw c.number.ensures (carried says_got (λ s. flat_answer (answered s)) c.get-answer.ensures c.in-Refused.is)

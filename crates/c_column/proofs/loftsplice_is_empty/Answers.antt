@@ -13,5 +13,4 @@ returns-in-Held c = carried says_emptiness flat_emptiness c.is_empty-answer.ensu
 
 pub returns-in-Refused : goal.returns-in-Refused
 returns-in-Refused c =
-    let at-match = c.before.before in
-    rw c.number.ensures (carried says_emptiness flat_emptiness at-match.is_empty-answer.ensures at-match.in-Refused.is)
+    rw c.number.ensures (carried says_emptiness flat_emptiness c.is_empty-answer.ensures c.in-Refused.is)

@@ -10,5 +10,4 @@ returns-in-Is c = carried says_length flat_length c.len-answer.ensures c.in-Is.i
 
 pub returns-in-Refused : goal.returns-in-Refused
 returns-in-Refused c =
-    let at-match = c.before.before in
-    rw c.number.ensures (carried says_length flat_length at-match.len-answer.ensures at-match.in-Refused.is)
+    rw c.number.ensures (carried says_length flat_length c.len-answer.ensures c.in-Refused.is)

@@ -10,5 +10,4 @@ returns-in-At c = carried says_placed flat_place c.place-answer.ensures c.in-At.
 
 pub returns-in-Refused : goal.returns-in-Refused
 returns-in-Refused c =
-    let at-match = c.before.before in
-    rw c.number.ensures (carried says_placed flat_place at-match.place-answer.ensures at-match.in-Refused.is)
+    rw c.number.ensures (carried says_placed flat_place c.place-answer.ensures c.in-Refused.is)

@@ -48,7 +48,7 @@ returns c =
     let at-lower = at-upper.before in
     let at_test = at-lower.before in
     let s = start at_test.before in
-    let good = sym at_test.before.is_call.ensures ∙ at_test.if-is_call.true in (
+    let good = sym at_test.is_call.ensures ∙ at_test.if-is_call.true in (
       called s.args.filter _ good at-filter.filter_of-asked.ensures at-lower.variables_of-lower.ensures at-upper.variables_of-upper.ensures at-inputs.inputs_of-inputs.ensures _ at_call.seek_run-ran.ensures.0 c.flat_filter_ran.ensures,
       left s.args.filter _ good at-filter.filter_of-asked.ensures at-lower.variables_of-lower.ensures at-upper.variables_of-upper.ensures at-inputs.inputs_of-inputs.ensures _ _ at_call.seek_run-ran.ensures.1,
     )
@@ -57,7 +57,7 @@ returns-2 : tie.Need-returns-else-is_call
 returns-2 c =
     let at_test = c.before in
     let s = start at_test.before in
-    let bad = sym at_test.before.is_call.ensures ∙ at_test.if-is_call.false in
+    let bad = sym at_test.is_call.ensures ∙ at_test.if-is_call.false in
     (not-called s.args.filter _ bad _ c.bad_filter_run.ensures, not_left s.args.filter _ bad _ _)
 
 pub loftsplice_filter_seek_run_spec : {M : Type 1} → statement M

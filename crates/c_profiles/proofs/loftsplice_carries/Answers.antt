@@ -8,9 +8,7 @@ use Rattle.c_profiles.proofs.loftsplice_carries.Goals as goal
 
 pub returns : goal.returns
 returns c =
-    let at_call = c.before in
-    let at_byte = at_call.before in
-    let said = rw at_byte.profile_in-byte.ensures at at_call.carries-answer.ensures in
+    let said = rw c.profile_in-byte.ensures at c.carries-answer.ensures in
     c.flat_carried.ensures ∙ ap flat_carried (
-    ⊎_elim (λ own. rw own at said) (λ none. said ∙ carries-16 none.1 _ _ _ ∙ sym (carries-16 none.0 _ _ _)) (kind at_byte.args.profile)
+    ⊎_elim (λ own. rw own at said) (λ none. said ∙ carries-16 none.1 _ _ _ ∙ sym (carries-16 none.0 _ _ _)) (kind c.args.profile)
     )

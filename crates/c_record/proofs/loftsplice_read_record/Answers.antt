@@ -6,8 +6,7 @@ use Rattle.c_record.proofs.loftsplice_read_record.Goals as goal
 
 pub returns : goal.returns
 returns c =
-    let at-flat = c.before.before.before in
-    let r = at-flat.read-answer in record {
+    let r = c.read-answer in record {
   value = c.flat_read.ensures ∙ ap flat_read r.ensures.0;
   leaves = rw r.ensures.0 at r.ensures.1.0;
   leaves_2 = rw r.ensures.0 at r.ensures.1.1.0;

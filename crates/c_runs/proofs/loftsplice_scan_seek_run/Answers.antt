@@ -6,21 +6,15 @@ use Rattle.c_runs.proofs.loftsplice_scan_seek_run.Goals as goal
 
 pub returns-then-is_scan : goal.returns-then-is_scan
 returns-then-is_scan c =
-    let at_call = c.before.before in
-    let at-scan = at_call.before.before in
-    let at_test = at-scan.before in
-    let s = at_test.before.before.before in
-    let good = sym at_test.is_scan.ensures ∙ at_test.if-is_scan.true in record {
-  value = called s.args.scan _ good at-scan.scan_of.ensures at_call.seek_run-ran.ensures.result_value c.flat_ran.ensures;
-  out_after = left s.args.scan _ _ good at-scan.scan_of.ensures at_call.seek_run-ran.ensures.out_after;
+    let good = sym c.is_scan.ensures ∙ c.if-is_scan.true in record {
+  value = called c.args.scan _ good c.scan_of.ensures c.seek_run-ran.ensures.result_value c.flat_ran.ensures;
+  out_after = left c.args.scan _ _ good c.scan_of.ensures c.seek_run-ran.ensures.out_after;
 }
 
 pub returns-else-is_scan : goal.returns-else-is_scan
 returns-else-is_scan c =
-    let at_test = c.before in
-    let s = at_test.before.before.before in
-    let bad = sym at_test.is_scan.ensures ∙ at_test.if-is_scan.false in
+    let bad = sym c.is_scan.ensures ∙ c.if-is_scan.false in
     record {
-  value = not-called s.args.scan _ bad c.bad_run.ensures;
-  out_after = not_left s.args.scan _ _ bad;
+  value = not-called c.args.scan _ bad c.bad_run.ensures;
+  out_after = not_left c.args.scan _ _ bad;
 }

@@ -6,14 +6,8 @@ use Rattle.c_scan.proofs.loftsplice_scan_narrow.Goals as goal
 
 pub returns-then-is_scan : goal.returns-then-is_scan
 returns-then-is_scan c =
-    let at_call = c.before in
-    let at-scan = at_call.before in
-    let at_test = at-scan.before in
-    let start = at_test.before.before.before in
-    called start.args.scan _ (sym at_test.is_scan.ensures ∙ at_test.if-is_scan.true) at-scan.scan_of.ensures at_call.narrow-moved.ensures c.flat_moved.ensures
+    called c.args.scan _ (sym c.is_scan.ensures ∙ c.if-is_scan.true) c.scan_of.ensures c.narrow-moved.ensures c.flat_moved.ensures
 
 pub returns-else-is_scan : goal.returns-else-is_scan
 returns-else-is_scan c =
-    let at_test = c.before in
-    let start = at_test.before.before.before in
-    not-called start.args.scan _ (sym at_test.is_scan.ensures ∙ at_test.if-is_scan.false) c.bad_form-answer.ensures
+    not-called c.args.scan _ (sym c.is_scan.ensures ∙ c.if-is_scan.false) c.bad_form-answer.ensures

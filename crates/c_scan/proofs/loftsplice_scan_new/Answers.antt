@@ -7,10 +7,8 @@ use Rattle.c_scan.proofs.loftsplice_scan_new.Goals as goal
 
 pub returns-in-Ready : goal.returns-in-Ready
 returns-in-Ready c =
-    let at-match = c.before.before in
-    rw c.flat_scan.ensures (carried says_made flat_new_scan at-match.new-made.ensures at-match.in-Ready.is)
+    rw c.flat_scan.ensures (carried says_made flat_new_scan c.new-made.ensures c.in-Ready.is)
 
 pub returns-in-Refused : goal.returns-in-Refused
 returns-in-Refused c =
-    let at-match = c.before.before.before in
-    rw (c.no_scan.ensures, c.number.ensures) (carried says_made flat_new_scan at-match.new-made.ensures at-match.in-Refused.is)
+    rw (c.no_scan.ensures, c.number.ensures) (carried says_made flat_new_scan c.new-made.ensures c.in-Refused.is)

@@ -7,14 +7,9 @@ use Rattle.c_scan.proofs.loftsplice_scan_pos.Goals as goal
 
 pub returns-then-is_scan : goal.returns-then-is_scan
 returns-then-is_scan c =
-    let at_call = c.before in
-    let at-scan = at_call.before in
-    let at_test = at-scan.before in
-    let start = at_test.before.before.before in
     c.flat_position.ensures
-    ∙ ap flat_position (asked start.args.scan _ (sym at_test.is_scan.ensures ∙ at_test.if-is_scan.true) at-scan.scan_of.ensures at_call.pos.ensures)
+    ∙ ap flat_position (asked c.args.scan _ (sym c.is_scan.ensures ∙ c.if-is_scan.true) c.scan_of.ensures c.pos.ensures)
 
 pub returns-else-is_scan : goal.returns-else-is_scan
 returns-else-is_scan c =
-    let start = c.before.before.before in
-    ap flat_position (not-asked start.args.scan _ (sym c.is_scan.ensures ∙ c.if-is_scan.false))
+    ap flat_position (not-asked c.args.scan _ (sym c.is_scan.ensures ∙ c.if-is_scan.false))

@@ -7,13 +7,10 @@ use Rattle.c_totals.proofs.flat_total.Goals as goal
 
 pub returns-in-None : goal.returns-in-None
 returns-in-None c =
-    let k = c.before in
-    let t = k.args.total in
-    rw (back w64 t.high c.struct_told-1.given.1.1.0.1) (flat-none t k.in-None.is)
+    let t = c.args.total in
+    rw (back w64 t.high c.struct_told-1.given.1.1.0.1) (flat-none t c.in-None.is)
 
 pub returns-in-Are : goal.returns-in-Are
 returns-in-Are c =
-    let k = c.before in
-    let e = k.before in
-    let t = e.args.total in
-    rw (back w64 _ k.known_told-1.given.0.1, back w64 _ k.known_told-1.given.1.0.1, back w64 t.high c.struct_told-in-Are-1.given.1.1.0.1) (flat-are t _ _ e.in-Are.is)
+    let t = c.args.total in
+    rw (back w64 _ c.in-Are.known_told-1-own.given.0.1, back w64 _ c.in-Are.known_told-1-own.given.1.0.1, back w64 t.high c.struct_told-in-Are-1.given.1.1.0.1) (flat-are t _ _ c.in-Are.is)

@@ -5,9 +5,7 @@ use borrow.Author.Rules.{rules}
 use Rattle.c_totals.proofs.loftsplice_totals.Goals as goal
 
 pub returns : goal.returns
-returns c = let h = c.before.before.before in
-    let k3 = h.before.before.before in
-    let r = k3.totals-answer in
+returns c =    let r = c.totals-answer in
     let e = r.ensures.0 in record {
   value = c.flat_totalled.ensures ∙ ap flat_totalled e;
   leaves = rw e at r.ensures.1.0;

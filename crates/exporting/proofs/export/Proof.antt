@@ -34,14 +34,14 @@ module _ (k : tie.After-check_records) where
 export-fit-requires : tie.Need-export_fit-requires
 export-fit-requires c κs =
     let t = c.before in
-    let k = t.before.before in
+    let k = t.before in
     let clear = records-clear (source_of (col (st k))) (st k).args.count k.check_records.result k.check_records.ensures t.in-Fine.is in
     (clear-sound (col (st k)) (st k).args.count clear, (clear-fit (col (st k)) (st k).args.count clear, (low k).if-count-gt524288.false))
 
 returns-2 : tie.Need-returns-in-Refused
 returns-2 c =
-    let w = c.before in
-    let k = w.before.before in
+    let w = c in
+    let k = w.before in
     (says-refused _ _ _ (low k).if-count-gt524288.false k.check_records.result k.check_records.ensures _ w.in-Refused.is, refl)
 
 same_length : tie.Need-shape_of-out
@@ -51,7 +51,7 @@ returns-3 : tie.Need-returns-in-Fine
 returns-3 c =
     let x = c.before.before in
     let t = x.before.before in
-    let k = t.before.before in
+    let k = t.before in
     (says-fit (source_of (col (st k))) _ _ (low k).if-count-gt524288.false k.check_records.result k.check_records.ensures _ t.in-Fine.is x.export_fit.ensures.0, x.export_fit.ensures.1)
 
 pub export_spec : {M : Type 1} → statement M

@@ -21,19 +21,15 @@ slice_bounds-fill-end-2 c = simp length-take (omega arith)
 
 pub fill-requires : goal.fill-requires
 fill-requires c =
-    let e = c.before in
-    let s = e.before.before.before in
     record {
-  steps_value = s.requires.steps_value;
-  count_value = s.requires.count_value;
-  count_bound = (s.requires.count_bound, simp length-take (omega arith));
+  steps_value = c.requires.steps_value;
+  count_value = c.requires.count_value;
+  count_bound = (c.requires.count_bound, simp length-take (omega arith));
 }
 
 pub returns : goal.returns
 returns c =
-    let l = c.before.before in
-    let t = l.before.before in
-    let s = t.before.before.before in record {
-  result_value = says-bytes s.args.count (length s.args.out.now) t.if-out-used.false;
-  leaves = left_is (carries_record (sequence_of (column_now s.args.starts s.args.ends s.args.steps))) (bytes_for s.args.count) _ s.args.out.now l.fill.ensures;
+    record {
+  result_value = says-bytes c.args.count (length c.args.out.now) c.if-out-used.false;
+  leaves = left_is (carries_record (sequence_of (column_now c.args.starts c.args.ends c.args.steps))) (bytes_for c.args.count) _ c.args.out.now c.fill.ensures;
 }

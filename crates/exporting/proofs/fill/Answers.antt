@@ -12,30 +12,17 @@ use Rattle.exporting.proofs.fill.Goals as goal
 
 pub mark_runs-requires : goal.mark_runs-requires
 mark_runs-requires c =
-    let cleared = c.before.before.before in
-    let known = cleared.before.before in
-    let s = known.before.before in
     record {
-  steps_value = s.requires.steps_value;
-  count_value = s.requires.count_value;
-  count_bound = (s.requires.count_bound.0, omega (arith, ap length cleared.clear.ensures ∙ length-replicate (length s.args.bytes.now) 0, s.requires.count_bound.1));
+  steps_value = c.requires.steps_value;
+  count_value = c.requires.count_value;
+  count_bound = (c.requires.count_bound.0, omega (arith, ap length c.clear.ensures ∙ length-replicate (length c.args.bytes.now) 0, c.requires.count_bound.1));
 }
 
 pub shape_of-bytes : goal.shape_of-bytes
 shape_of-bytes c =
-    let marked = c.before.before in
-    let held = marked.before.before in
-    let cleared = held.before.before in
-    let known = cleared.before.before in
-    let s = known.before.before in
-    marked.mark_runs.ensures.long ∙ ap length cleared.clear.ensures ∙ length-replicate (length s.args.bytes.now) 0
+    c.mark_runs.ensures.long ∙ ap length c.clear.ensures ∙ length-replicate (length c.args.bytes.now) 0
 
 pub returns : goal.returns
 returns c =
-    let marked = c.before.before in
-    let held = marked.before.before in
-    let cleared = held.before.before in
-    let known = cleared.before.before in
-    let s = known.before.before in
-    let p = carries_record (sequence_of (column_now s.args.starts s.args.ends s.args.steps)) in
-    written s.args.bytes.now p cleared.clear.ensures marked.mark_runs.ensures (λ j. (c.slice_known-3-1.given j).fits) ∙ ap (bitmap_of p 0) s.requires.count_bound.1
+    let p = carries_record (sequence_of (column_now c.args.starts c.args.ends c.args.steps)) in
+    written c.args.bytes.now p c.clear.ensures c.mark_runs.ensures (λ j. (c.slice_known-3-1.given j).fits) ∙ ap (bitmap_of p 0) c.requires.count_bound.1

@@ -22,8 +22,8 @@ enum-known-answer c = search rules
 
 returns : tie.Need-returns-in-Refused
 returns c =
-    let at-answer = c.before in
-    let at_next = at-answer.before.before.before in
+    let at-answer = c in
+    let at_next = at-answer.before.before in
     let s = at_next.before.before in
     next-refused (col s) (handed s) s.args.filter at_next.next-first.result at_next.next-first.ensures s.args.out.now at-answer.in-Refused.why at-answer.in-Refused.is
 
@@ -32,7 +32,7 @@ returns-2 c =
     let at-keys = c.before in
     let at_next = at-keys.before.before in
     let s = at_next.before.before in
-    next-nowhere (col s) (handed s) s.args.filter at_next.next-first.result at_next.next-first.ensures s.args.out.now at-keys.in-Refused.keys2 c.if-out-eq0.true
+    next-nowhere (col s) (handed s) s.args.filter at_next.next-first.result at_next.next-first.ensures s.args.out.now at-keys.in_default.in_default-own.keys2 c.if-out-eq0.true
 
 enum_told : tie.Need-enum_told-1
 enum_told c = search rules
@@ -40,7 +40,7 @@ enum_told c = search rules
 nexts-on-requires : tie.Need-nexts_on-requires
 nexts-on-requires c κs =
     let at_told = c.before in
-    let at-else = at_told.before.before in
+    let at-else = at_told.before in
     let at_next = at-else.before.before.before in
     let s = at_next.before.before in
     (next-stands (col s) (handed s) s.args.filter at_next.next-first.result at_next.next-first.ensures s.args.out.now at_told.in-Value.field-0 at_told.in-Value.is).0
@@ -52,7 +52,7 @@ returns-3 : tie.Need-returns-in-Value
 returns-3 c =
     let at_on = c.before in
     let at_told = at_on.before.before in
-    let at-else = at_told.before.before in
+    let at-else = at_told.before in
     let at_next = at-else.before.before.before in
     let s = at_next.before.before in
     next-some (col s) (handed s) s.args.filter at_next.next-first.result at_next.next-first.ensures s.args.out.now at_told.in-Value.field-0 at_told.in-Value.is
@@ -64,7 +64,7 @@ returns-4 c =
     let at-keys = at-else.before in
     let at_next = at-keys.before.before in
     let s = at_next.before.before in
-    next-none (col s) (handed s) s.args.filter at_next.next-first.result at_next.next-first.ensures s.args.out.now at-keys.in-Refused.keys2 c.in-Value.keys2
+    next-none (col s) (handed s) s.args.filter at_next.next-first.result at_next.next-first.ensures s.args.out.now at-keys.in_default.in_default-own.keys2 c.in_default-answer.in_default-answer-own.keys2
     (omega (arith, at-else.if-out-eq0.false))
 
 pub next_run_spec : {M : Type 1} → statement M

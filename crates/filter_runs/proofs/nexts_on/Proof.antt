@@ -45,8 +45,8 @@ same_length c = search rules
 
 returns : tie.Need-returns-then-values-places
 returns c =
-    let at-counted = c.before.before.before in
-    let at_out = at-counted.before.before.before in
+    let at-counted = c.before.before in
+    let at_out = at-counted.before.before in
     let at-run = at_out.before in
     let at-stop = at-run.before.before in
     let at-pass = at-stop.before in
@@ -57,7 +57,7 @@ returns c =
       ap (λ (g : Filter). record { filter = g; said = Gives n }) c.moved_on.ensures
           ∙ on-short (col s) s.args.filter s.requires s.args.out.now at-limit.limit_of-up.result at-start.stands_at-start.result at-stop.stands_at-stop.result at-pass.pass-over.result
           at-limit.limit_of-up.ensures at-start.stands_at-start.ensures at-pass.pass-over.ensures at-stop.stands_at-stop.ensures
-          (tally_of at-run.next_run-ran.result) at-run.next_run-ran.ensures.0 n (ap says_counted at-counted.in-Values.is) c.before.if-values-places.true,
+          (tally_of at-run.next_run-ran.result) at-run.next_run-ran.ensures.0 n (ap says_counted at-counted.in-Values.is) c.if-values-places.true,
       on_out (col s) s.args.filter s.requires s.args.out.now at-limit.limit_of-up.result at-start.stands_at-start.result at-stop.stands_at-stop.result at-pass.pass-over.result
           at-limit.limit_of-up.ensures at-start.stands_at-start.ensures at-pass.pass-over.ensures at-stop.stands_at-stop.ensures _ at-run.next_run-ran.ensures.1,
     )
@@ -70,8 +70,8 @@ same-length-2 c = search rules
 
 returns-2 : tie.Need-returns-in-Refused
 returns-2 c =
-    let at-counted = c.before in
-    let at_out = at-counted.before.before.before in
+    let at-counted = c in
+    let at_out = at-counted.before.before in
     let at-run = at_out.before in
     let at-stop = at-run.before.before in
     let at-pass = at-stop.before in
@@ -87,8 +87,8 @@ same-length-3 c = search rules
 
 returns-3 : tie.Need-returns-else-values-places
 returns-3 c =
-    let at-counted = c.before.before.before in
-    let at_out = at-counted.before.before.before in
+    let at-counted = c.before.before in
+    let at_out = at-counted.before.before in
     let at-run = at_out.before in
     let at-stop = at-run.before.before in
     let at-pass = at-stop.before in
@@ -99,7 +99,7 @@ returns-3 c =
       ap (λ (g : Filter). record { filter = g; said = Gives n }) c.moved_on-in-Values.ensures
           ∙ on-full (col s) s.args.filter s.requires s.args.out.now at-limit.limit_of-up.result at-start.stands_at-start.result at-stop.stands_at-stop.result at-pass.pass-over.result
           at-limit.limit_of-up.ensures at-start.stands_at-start.ensures at-pass.pass-over.ensures at-stop.stands_at-stop.ensures
-          (tally_of at-run.next_run-ran.result) at-run.next_run-ran.ensures.0 n (ap says_counted at-counted.in-Values.is) c.before.if-values-places.false,
+          (tally_of at-run.next_run-ran.result) at-run.next_run-ran.ensures.0 n (ap says_counted at-counted.in-Values.is) c.if-values-places.false,
       on_out (col s) s.args.filter s.requires s.args.out.now at-limit.limit_of-up.result at-start.stands_at-start.result at-stop.stands_at-stop.result at-pass.pass-over.result
           at-limit.limit_of-up.ensures at-start.stands_at-start.ensures at-pass.pass-over.ensures at-stop.stands_at-stop.ensures _ at-run.next_run-ran.ensures.1,
     )

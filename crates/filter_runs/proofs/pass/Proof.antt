@@ -23,15 +23,15 @@ led-requires c κs = search rules
 
 returns : tie.Need-returns-in-Free
 returns c =
-    let s = c.before.before.before in
+    let s = c.before.before in
     pass-free (col s) s.args.start s.args.end s.args.up c.in-Free.is s.requires.1.0.0
 
 returns-2 : tie.Need-returns-in-To
 returns-2 c =
     let at-lead-out = c.before.before in
-    let at_up = at-lead-out.before.before in
-    let s = at_up.before.before.before in
-    pass-to (col s) s.args.start s.args.end s.args.up s.requires.0 s.requires.1.0.1 s.requires.1.1 at_up.in-To.bound at_up.in-To.is _ at-lead-out.lead_out.ensures _ c.before.led-moved.ensures
+    let at_up = at-lead-out.before in
+    let s = at_up.before.before in
+    pass-to (col s) s.args.start s.args.end s.args.up s.requires.0 s.requires.1.0.1 s.requires.1.1 at_up.in-To.bound at_up.in-To.is _ at-lead-out.lead_out.ensures _ c.led-moved.ensures
 
 pub pass_spec : {M : Type 1} → statement M
 pass_spec = tie.close (tie.spec enum_told enum-known-up lead-out-requires led-requires returns returns-2)

@@ -33,7 +33,7 @@ next-present-requires c κs = search rules
 behind-requires : tie.Need-behind-shown-requires invariant-loop decreases-loop
 behind-requires c κs =
     let s = begin c in
-    (next-to (p s) 0 s.args.count c.next_present-at.result (omega arith) c.next_present-at.ensures, s.pre.0)
+    (next-to (p s) 0 s.args.count c.next_present-at.result (omega arith) c.next_present-at.ensures, s.requires.0)
 
 loop-holds : tie.Need-loop-at-init invariant-loop decreases-loop
 loop-holds c =
@@ -79,7 +79,7 @@ module _ (c : tie.After-packed invariant-loop decreases-loop) where
   i = c.before.before.before
 
   room : (l i).loop-at.n < length (l i).loop-at.kept
-  room = omega (arith, (l i).loop-at.invariant.2, (l i).loop-at.invariant.1, (l i).loop-at.invariant.0.low, i.loop-at-test.true, c.before.before.if-n-eq4096.false, (s i).pre.1)
+  room = omega (arith, (l i).loop-at.invariant.2, (l i).loop-at.invariant.1, (l i).loop-at.invariant.0.low, i.loop-at-test.true, c.if-n-eq4096.false, (s i).requires.1)
 
 slice-write-kept : tie.Need-bounds-kept-n invariant-loop decreases-loop
 slice-write-kept c = room c
@@ -89,7 +89,7 @@ add-n c = record { fits = omega (arith, (l (i c)).loop-at.invariant.1) }
 
 loop-less : tie.Need-loop-at-smaller invariant-loop decreases-loop
 loop-less c =
-    let f = c.before.run_behind-run.ensures.0 in
+    let f = c.run_behind-run.ensures.0 in
     omega (arith, f.after, f.some, (i c).loop-at-test.true)
 
 loop-again : tie.Need-loop-at-preserved invariant-loop decreases-loop
@@ -98,8 +98,8 @@ loop-again c =
     let a = l (i c) in
     let st = s (i c) in
     let run = r.run_behind-run.result in (
-      passed-more (p st) st.args.count a.loop-at.kept a.loop-at.n a.loop-at.at a.loop-at.invariant.0 run.step run.n run.next r.run_behind-run.ensures.0 c.packed.result (room c) st.pre.0 c.packed.ensures,
-      omega (arith, a.loop-at.invariant.1, r.before.if-n-eq4096.false),
+      passed-more (p st) st.args.count a.loop-at.kept a.loop-at.n a.loop-at.at a.loop-at.invariant.0 run.step run.n run.next r.run_behind-run.ensures.0 c.packed.result (room c) st.requires.0 c.packed.ensures,
+      omega (arith, a.loop-at.invariant.1, r.if-n-eq4096.false),
       length-set a.loop-at.kept a.loop-at.n c.packed.result ∙ a.loop-at.invariant.2,
       r.run_behind-run.ensures.1,
     )

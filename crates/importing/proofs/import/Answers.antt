@@ -8,9 +8,8 @@ use Rattle.importing.proofs.import.Goals as goal
 
 pub returns-then-count-gt524288 : goal.returns-then-count-gt524288
 returns-then-count-gt524288 c =
-    let s = c.before.before.before in
     record {
-  result_value = import-count s.args.bytes.now s.args.count (length s.args.starts.now) (length s.args.ends.now) (length s.args.steps.now) c.if-count-gt524288.true;
+  result_value = import-count c.args.bytes.now c.args.count (length c.args.starts.now) (length c.args.ends.now) (length c.args.steps.now) c.if-count-gt524288.true;
   leaves = refl;
   leaves_2 = refl;
   leaves_3 = refl;
@@ -18,10 +17,8 @@ returns-then-count-gt524288 c =
 
 pub returns-then-bytes-records : goal.returns-then-bytes-records
 returns-then-bytes-records c =
-    let e = c.before in
-    let s = e.before.before.before in
     record {
-  result_value = import-cut s.args.bytes.now s.args.count (length s.args.starts.now) (length s.args.ends.now) (length s.args.steps.now) e.if-count-gt524288.false c.if-bytes-records.true;
+  result_value = import-cut c.args.bytes.now c.args.count (length c.args.starts.now) (length c.args.ends.now) (length c.args.steps.now) c.if-count-gt524288.false c.if-bytes-records.true;
   leaves = refl;
   leaves_2 = refl;
   leaves_3 = refl;

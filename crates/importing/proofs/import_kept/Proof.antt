@@ -53,7 +53,7 @@ returns : tie.Need-returns-then-n-gt4096
 returns c =
     let a = c.before in
     let s = st a in
-    (import-many s.args.bytes.now s.args.count (starts s) (ends s) (steps s) s.pre.0 s.pre.1 (n a) (k a).find_runs-n.ensures.0 c.if-n-gt4096.true, (refl, (refl, refl)))
+    (import-many s.args.bytes.now s.args.count (starts s) (ends s) (steps s) s.requires.0 s.requires.1 (n a) (k a).find_runs-n.ensures.0 c.if-n-gt4096.true, (refl, (refl, refl)))
 
 same-length-2 : tie.Need-shape_of-kept-then-starts-n
 same-length-2 c = search rules
@@ -62,7 +62,7 @@ returns-2 : tie.Need-returns-then-starts-n
 returns-2 c =
     let a = c.before.before in
     let s = st a in
-    (import-starts s.args.bytes.now s.args.count (starts s) (ends s) (steps s) s.pre.0 s.pre.1 (n a) (k a).find_runs-n.ensures.0 c.before.if-n-gt4096.false c.if-starts-n.true, (refl, (refl, refl)))
+    (import-starts s.args.bytes.now s.args.count (starts s) (ends s) (steps s) s.requires.0 s.requires.1 (n a) (k a).find_runs-n.ensures.0 c.if-n-gt4096.false c.if-starts-n.true, (refl, (refl, refl)))
 
 same-length-3 : tie.Need-shape_of-kept-then-ends-n
 same-length-3 c = search rules
@@ -71,7 +71,7 @@ returns-3 : tie.Need-returns-then-ends-n
 returns-3 c =
     let a = c.before.before.before in
     let s = st a in
-    (import-ends s.args.bytes.now s.args.count (starts s) (ends s) (steps s) s.pre.0 s.pre.1 (n a) (k a).find_runs-n.ensures.0 c.before.before.if-n-gt4096.false c.before.if-starts-n.false c.if-ends-n.true, (refl, (refl, refl)))
+    (import-ends s.args.bytes.now s.args.count (starts s) (ends s) (steps s) s.requires.0 s.requires.1 (n a) (k a).find_runs-n.ensures.0 c.if-n-gt4096.false c.if-starts-n.false c.if-ends-n.true, (refl, (refl, refl)))
 
 same-length-4 : tie.Need-shape_of-kept-then-steps-n
 same-length-4 c = search rules
@@ -81,7 +81,7 @@ returns-4 c =
     let few = c.before.before.before in
     let a = few.before in
     let s = st a in
-    (import-steps s.args.bytes.now s.args.count (starts s) (ends s) (steps s) s.pre.0 s.pre.1 (n a) (k a).find_runs-n.ensures.0 few.if-n-gt4096.false c.before.before.if-starts-n.false c.before.if-ends-n.false c.if-steps-n.true, (refl, (refl, refl)))
+    (import-steps s.args.bytes.now s.args.count (starts s) (ends s) (steps s) s.requires.0 s.requires.1 (n a) (k a).find_runs-n.ensures.0 few.if-n-gt4096.false c.if-starts-n.false c.if-ends-n.false c.if-steps-n.true, (refl, (refl, refl)))
 
 -- behind all tests
 module _ (c : tie.Else-steps-n) where
@@ -95,12 +95,12 @@ module _ (c : tie.Else-steps-n) where
   s = st found
 
   is-count : (k found).find_runs-n.result ≡ length (runs_of (values (st found)))
-  is-count = count-is s.args.bytes.now s.args.count (starts s) (ends s) (steps s) s.pre.0 s.pre.1 (n found) (k found).find_runs-n.ensures.0 few-runs.if-n-gt4096.false
+  is-count = count-is s.args.bytes.now s.args.count (starts s) (ends s) (steps s) s.requires.0 s.requires.1 (n found) (k found).find_runs-n.ensures.0 few-runs.if-n-gt4096.false
 
   accepted : (ones : ℕ) → ones ≡ count_for (present s.args.bytes.now) 0 s.args.count
       → Gives (record { runs = n found; ones = ones }) ≡ import_of s.args.bytes.now s.args.count (starts s) (ends s) (steps s)
-  accepted ones e = import-fine s.args.bytes.now s.args.count (starts s) (ends s) (steps s) s.pre.0 s.pre.1 (n found) (k found).find_runs-n.ensures.0 few-runs.if-n-gt4096.false ones e
-      c.before.before.if-starts-n.false c.before.if-ends-n.false c.if-steps-n.false
+  accepted ones e = import-fine s.args.bytes.now s.args.count (starts s) (ends s) (steps s) s.requires.0 s.requires.1 (n found) (k found).find_runs-n.ensures.0 few-runs.if-n-gt4096.false ones e
+      c.if-starts-n.false c.if-ends-n.false c.if-steps-n.false
 
 same-length-5 : tie.Need-shape_of-kept-then-n-eq0
 same-length-5 c = search rules
@@ -118,7 +118,7 @@ write-runs-requires : tie.Need-write_runs-requires
 write-runs-requires c κs =
     let e = all c.before.before.before in
     let m = is-count e in
-    ((m, (few-runs e).if-n-gt4096.false, (k (found e)).find_runs-n.ensures.1 (few-runs e).if-n-gt4096.false), (omega (arith, m, e.before.before.if-starts-n.false), omega (arith, m, e.before.if-ends-n.false), omega (arith, m, e.if-steps-n.false)))
+    ((m, (few-runs e).if-n-gt4096.false, (k (found e)).find_runs-n.ensures.1 (few-runs e).if-n-gt4096.false), (omega (arith, m, e.if-starts-n.false), omega (arith, m, e.if-ends-n.false), omega (arith, m, e.if-steps-n.false)))
 
 count-present-requires : tie.Need-count_present-ones-requires
 count-present-requires c κs = search rules
@@ -143,13 +143,13 @@ returns-6 c =
     let e = all arg.before in
     let m = is-count e in
     let col = imported_column (s e).args.bytes.now (s e).args.count in
-    let l1 : length col.starts-1 ≤ starts (s e) = omega (arith, length-map (runs_of (values (s e))) (λ (r : Run). r.start), m, e.before.before.if-starts-n.false) in
-    let l2 : length col.ends-1 ≤ ends (s e) = omega (arith, runs-are (runs_of (values (s e))), m, e.before.if-ends-n.false) in
-    let l3 : length col.steps-1 ≤ steps (s e) = omega (arith, length-map (runs_of (values (s e))) (λ (r : Run). r.step), m, e.if-steps-n.false) in (
+    let l1 : length col.starts ≤ starts (s e) = omega (arith, length-map (runs_of (values (s e))) (λ (r : Run). r.start), m, e.if-starts-n.false) in
+    let l2 : length col.ends ≤ ends (s e) = omega (arith, runs-are (runs_of (values (s e))), m, e.if-ends-n.false) in
+    let l3 : length col.steps ≤ steps (s e) = omega (arith, length-map (runs_of (values (s e))) (λ (r : Run). r.step), m, e.if-steps-n.false) in (
       accepted e c.count_present-ones.result c.count_present-ones.ensures,
       (
-        w.write_runs.ensures.0 ∙ filled col.starts-1 (s e).args.starts.now l1,
-        (w.write_runs.ensures.1.0 ∙ filled col.ends-1 (s e).args.ends.now l2, w.write_runs.ensures.1.1 ∙ filled col.steps-1 (s e).args.steps.now l3),
+        w.write_runs.ensures.0 ∙ filled col.starts (s e).args.starts.now l1,
+        (w.write_runs.ensures.1.0 ∙ filled col.ends (s e).args.ends.now l2, w.write_runs.ensures.1.1 ∙ filled col.steps (s e).args.steps.now l3),
       ),
     )
 

@@ -36,7 +36,7 @@ abbrev start : tie.At-loop-why invariant-loop decreases-loop → tie.Start invar
 start l = l.before.before.before
 
 long : (l : tie.At-loop-why invariant-loop decreases-loop) → length l.loop-why.flags ≡ length (old (start l))
-long l = let s = start l in done-long (p s) (ks s) (old s) s.pre l.loop-why.i l.loop-why.flags l.loop-why.invariant
+long l = let s = start l in done-long (p s) (ks s) (old s) s.requires l.loop-why.i l.loop-why.flags l.loop-why.invariant
 
 loop-holds : tie.Need-loop-why-init invariant-loop decreases-loop
 loop-holds c = let s = c.before.before in done-start (p s) (ks s) (old s) s.requires
@@ -68,7 +68,7 @@ module _ (c : tie.After-stretch-n invariant-loop decreases-loop) where
   n = c.stretch-n.result
 
   under : l.loop-why.i + n ≤ length (ks s)
-  under = below (p s) (ks s) (old s) s.pre l.loop-why.i l.loop-why.flags l.loop-why.invariant n c.stretch-n.ensures
+  under = below (p s) (ks s) (old s) s.requires l.loop-why.i l.loop-why.flags l.loop-why.invariant n c.stretch-n.ensures
 
 add-carried-in : tie.Need-overflow_add-i invariant-loop decreases-loop
 add-carried-in c = omega (arith, under c, (s c).well_formed)
@@ -118,19 +118,19 @@ module _ (c : tie.After-carried_in-part invariant-loop decreases-loop) where
   says = says_checked c.carried_in-part.result
 
   turned : Turn (p s') (ks s') (old s') (l st).loop-why.i (l st).loop-why.flags (n st) c.carried_in-part.new.1.1.1.1.0 says
-  turned = turn (p s') (ks s') (old s') s'.pre (l st).loop-why.i (l st).loop-why.flags (l st).loop-why.invariant (n st) st.stretch-n.ensures _ says c.carried_in-part.ensures.0 c.carried_in-part.ensures.1
+  turned = turn (p s') (ks s') (old s') s'.requires (l st).loop-why.i (l st).loop-why.flags (l st).loop-why.invariant (n st) st.stretch-n.ensures _ says c.carried_in-part.ensures.0 c.carried_in-part.ensures.1
 
 same_length : tie.Need-shape_of-flags-in-Refused invariant-loop decreases-loop
 same_length c =
-    let at_part = c.before in
-    let at-flags = at_part.before.before.before in
+    let at_part = c in
+    let at-flags = at_part.before.before in
     let r = at-flags.before in
     ap length ((turned r).refused _ (ap says_checked at_part.in-Refused.is))
 
 returns : tie.Need-returns-in-Refused invariant-loop decreases-loop
 returns c =
-    let at_part = c.before in
-    let at-flags = at_part.before.before.before in
+    let at_part = c in
+    let at-flags = at_part.before.before in
     let r = at-flags.before in
     let e = ap says_checked at_part.in-Refused.is in
     (sym e ∙ (turned r).says, (turned r).refused _ e)
@@ -142,14 +142,14 @@ enum_told c = search rules
 module _ (c : tie.In_default invariant-loop decreases-loop) where
   abbrev ran : tie.After-carried_in-part invariant-loop decreases-loop
   ran =
-      let shr_slice_at = c.before.before in
+      let shr_slice_at = c.before in
       shr_slice_at.before.before
 
   fine-said : says ran ≡ Gives fine
   fine-said = ap says_checked c.in_default.is
 
 add-i : tie.Need-overflow_add-i-in-loop-why invariant-loop decreases-loop
-add-i c = omega (arith, under (st (ran c)), (s' (ran c)).good)
+add-i c = omega (arith, under (st (ran c)), (s' (ran c)).well_formed)
 
 same-length-2 : tie.Need-shape_of-flags-then-i-numbers invariant-loop decreases-loop
 same-length-2 c = let t = c.before in (turned (ran t)).long (fine-said t)

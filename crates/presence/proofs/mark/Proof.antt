@@ -22,19 +22,19 @@ loop-holds : tie.Need-loop-k-init invariant-loop decreases-loop
 unfolding joined
 loop-holds c = (omega arith, refl)
 
-long : (c : tie.At-loop-k invariant-loop decreases-loop) → length c.loop-k.flags ≡ length c.before.before.args.flags.now
+long : (c : tie.At-loop-k invariant-loop decreases-loop) → length c.loop-k.flags ≡ length c.args.flags.now
 long c =
-    let a = c.before.before.args in
+    let a = c.args in
     ap length c.loop-k.invariant.1 ∙ length-sets a.flags.now 0 (each (mark_at a.numbers.now a.values.now a.given) c.loop-k.k)
 
 flag-requires : tie.Need-flag-requires invariant-loop decreases-loop
-flag-requires c κs = (c.before.before.before.requires.0, c.loop-k-test.true)
+flag-requires c κs = (c.requires.0, c.loop-k-test.true)
 
 slice-write-flags : tie.Need-bounds-flags-k invariant-loop decreases-loop
 slice-write-flags c =
     let at_turn = c.before in
     let l = at_turn.before in
-    omega (arith, long l, l.before.before.requires.1, at_turn.loop-k-test.true)
+    omega (arith, long l, l.requires.1, at_turn.loop-k-test.true)
 
 add-k : tie.Need-overflow_add-k invariant-loop decreases-loop
 add-k c = search rules
@@ -45,7 +45,7 @@ loop-less c = search rules
 loop-again : tie.Need-loop-k-preserved invariant-loop decreases-loop
 loop-again c =
     let l = c.before.before in
-    let a = l.before.before.args in
+    let a = l.args in
     (omega arith, each_more (mark_at a.numbers.now a.values.now a.given) l.loop-k.flags a.flags.now l.loop-k.k _ l.loop-k.invariant.1 c.flag.ensures)
 
 same_length : tie.Need-shape_of-flags invariant-loop decreases-loop

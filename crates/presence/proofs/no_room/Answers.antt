@@ -8,25 +8,15 @@ use Rattle.presence.proofs.no_room.Goals as goal
 
 pub returns-in-Refused : goal.returns-in-Refused
 returns-in-Refused c =
-    let at-footed = c.before in
-    let f = at-footed.before.before in
-    let w = f.before in
-    let s = w.before.before in
-    foot-refused (column_now s.args.starts s.args.ends s.args.steps) s.args.numbers.now s.args.places s.requires. _ w.whole.ensures _
-    (sym (ap says_footed at-footed.in-Refused.is) ∙ f.find_footing-footed.ensures)
+    foot-refused (column_now c.args.starts c.args.ends c.args.steps) c.args.numbers.now c.args.places c.requires _ c.whole.ensures _
+    (sym (ap says_footed c.in-Refused.is) ∙ c.find_footing-footed.ensures)
 
 pub returns-in-Past : goal.returns-in-Past
 returns-in-Past c =
-    let f = c.before.before in
-    let w = f.before in
-    let s = w.before.before in
-    foot-given (column_now s.args.starts s.args.ends s.args.steps) s.args.numbers.now s.args.places s.requires. _ w.whole.ensures _
-    (sym (ap says_footed c.in-Past.is) ∙ f.find_footing-footed.ensures)
+    foot-given (column_now c.args.starts c.args.ends c.args.steps) c.args.numbers.now c.args.places c.requires _ c.whole.ensures _
+    (sym (ap says_footed c.in-Past.is) ∙ c.find_footing-footed.ensures)
 
 pub returns-in-On : goal.returns-in-On
 returns-in-On c =
-    let f = c.before.before in
-    let w = f.before in
-    let s = w.before.before in
-    foot-given (column_now s.args.starts s.args.ends s.args.steps) s.args.numbers.now s.args.places s.requires. _ w.whole.ensures _
-    (sym (ap says_footed c.in-On.is) ∙ f.find_footing-footed.ensures)
+    foot-given (column_now c.args.starts c.args.ends c.args.steps) c.args.numbers.now c.args.places c.requires _ c.whole.ensures _
+    (sym (ap says_footed c.in-On.is) ∙ c.find_footing-footed.ensures)

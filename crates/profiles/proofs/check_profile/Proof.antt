@@ -9,13 +9,13 @@ use Rattle.profiles.proofs.check_profile.Statement.{statement}
 use Rattle.profiles.proofs.check_profile.Tie as tie
 
 is_one : (c : tie.Else-not-is_profile) → let s = c.before.before.before in (eqb s.args.profile 1 || eqb s.args.profile 2) ≡ true
-is_one c = sym c.before.is_profile.ensures ∙ not-false c.before.is_profile.result c.if-not-is_profile.false-raw
+is_one c = sym c.is_profile.ensures ∙ not-false c.is_profile.result c.if-not-is_profile.false-raw
 
 is-profile-requires : tie.Need-is_profile-requires
 is-profile-requires c κs = search rules
 
 returns : tie.Need-returns-then-not-is_profile
-returns c = says-profile _ _ _ (sym c.before.is_profile.ensures ∙ not-true c.before.is_profile.result c.if-not-is_profile.true-raw)
+returns c = says-profile _ _ _ (sym c.is_profile.ensures ∙ not-true c.is_profile.result c.if-not-is_profile.true-raw)
 
 returns-2 : tie.Need-returns-then-count-gt4294967295
 returns-2 c = says-count _ _ _ (is_one c.before) c.if-count-gt4294967295.true

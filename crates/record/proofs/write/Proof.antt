@@ -16,7 +16,7 @@ use Rattle.record.proofs.write.Tie as tie
 -- the start, past the check
 abbrev start : tie.In-Fine → tie.Start
 start c =
-    let at-slice-known = c.before.before.before in
+    let at-slice-known = c.before.before in
     let at-start = at-slice-known.before.before in
     at-start
 
@@ -25,7 +25,7 @@ this c = column_now (start c).args.starts (start c).args.ends (start c).args.ste
 
 -- the check passed
 fine : (c : tie.In-Fine) → Passes (source_of (this c))
-fine c = was-fine _ _ c.before.before.check.ensures c.in-Fine.is
+fine c = was-fine _ _ c.check.ensures c.in-Fine.is
 
 check-requires : tie.Need-check-requires
 check-requires c κs = search rules
@@ -46,11 +46,11 @@ returns : tie.Need-returns-then-out-size
 returns c = (write-short (this c.before) _ (fine c.before) c.if-out-size.true, refl)
 
 write-all-requires : tie.Need-write_all-requires
-write-all-requires c κs = (passes-sound _ (fine c.before.before), c.before.if-out-size.false)
+write-all-requires c κs = (passes-sound _ (fine c.before.before), c.if-out-size.false)
 
 returns-2 : tie.Need-returns-in-Refused
 returns-2 c =
-    (write-refused _ _ _ (was-refused _ _ c.before.before.before.check.ensures _ c.before.in-Refused.is), refl)
+    (write-refused _ _ _ (was-refused _ _ c.check.ensures _ c.in-Refused.is), refl)
 
 same_length : tie.Need-shape_of-out
 same_length c = search rules

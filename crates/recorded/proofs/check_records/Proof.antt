@@ -21,13 +21,13 @@ enum_told c = search rules
 
 check-sound-requires : tie.Need-check_sound-requires
 check-sound-requires c κs =
-    let k = c.before.before in
+    let k = c.before in
     was-sound (col k.before.before) k.check.result k.check.ensures c.in-Fine.is
 
 returns : tie.Need-returns-in-Refused
 returns c =
-    let w = c.before in
-    let k = w.before.before in
+    let w = c in
+    let k = w.before in
     says-checked _ _ _ (was-refused _ _ k.check.ensures _ w.in-Refused.is)
 
 returns-2 : tie.Need-returns-in-Fine

@@ -30,7 +30,7 @@ module _ (c : tie.After-fits2) where
   st = c.before.before
 
   told : c.fits2.result ≡ (up st && records st)
-  told = c.fits2.ensures ∙ fits-exactly (col st) (sound-parts (col st) st.pre) st.args.count
+  told = c.fits2.ensures ∙ fits-exactly (col st) (sound-parts (col st) st.requires) st.args.count
 
 fits-requires : tie.Need-fits-requires
 fits-requires c κs = search rules
@@ -42,20 +42,20 @@ returns : tie.Need-returns-then-fits
 returns c =
     let f = c.before in
     let s = st f in
-    says-sound _ _ _ (sound-passes (col s) s.pre) (says-fine (up s) (records s) (sym c.if-fits.true ∙ told f))
+    says-sound _ _ _ (sound-passes (col s) s.requires) (says-fine (up s) (records s) (sym c.if-fits.true ∙ told f))
 
 returns-2 : tie.Need-returns-then-ordered
 returns-2 c =
     let o = c.before in
     let f = o.before.before in
     let s = st f in
-    says-sound _ _ _ (sound-passes (col s) s.pre) (says_range (up s) (records s) (sym o.before.if-fits.false ∙ told f) (sym o.ordered.ensures ∙ c.if-ordered.true))
+    says-sound _ _ _ (sound-passes (col s) s.requires) (says_range (up s) (records s) (sym o.if-fits.false ∙ told f) (sym o.ordered.ensures ∙ c.if-ordered.true))
 
 returns-3 : tie.Need-returns
 returns-3 c =
     let o = c.before in
     let s = st o.before.before in
-    says-sound _ _ _ (sound-passes (col s) s.pre) (says-order (up s) (records s) (sym o.ordered.ensures ∙ c.if-ordered.false))
+    says-sound _ _ _ (sound-passes (col s) s.requires) (says-order (up s) (records s) (sym o.ordered.ensures ∙ c.if-ordered.false))
 
 pub check_sound_spec : {M : Type 1} → statement M
 check_sound_spec = tie.close (tie.spec fits-requires returns ordered-requires returns-2 returns-3)

@@ -26,7 +26,7 @@ abbrev above : tie.Start invariant-loop decreases-loop → ℕ → Bool
 above s k = lt_z s.args.most (get_or s.args.targets.now k (pos 0))
 
 passed : (c : tie.At-loop-k invariant-loop decreases-loop) (j : ℕ) → j < c.loop-k.k → above c.before j ≡ false
-passed c = rw (to_z-of_z c.before.ranges.most) at c.loop-k.invariant.1
+passed c = rw (to_z-of_z c.ranges.most) at c.loop-k.invariant.1
 
 loop-holds : tie.Need-loop-k-init invariant-loop decreases-loop
 loop-holds c = (omega arith, λ j l. absurd (omega arith))
@@ -38,13 +38,13 @@ shared-slice-copy-out-target : tie.Need-bounds-targets-k invariant-loop decrease
 shared-slice-copy-out-target c = search rules
 
 -- the target that is read
-of-target : (c : tie.After-target-1 invariant-loop decreases-loop) → let v = get_or c.before.before.before.args.targets.now c.before.before.loop-k.k (pos 0) in to_z w64 (of_z w64 v) ≡ v
-of-target c = back w64 (get_or c.before.before.before.args.targets.now c.before.before.loop-k.k (pos 0)) c.target-1.given
+of-target : (c : tie.After-target-1 invariant-loop decreases-loop) → let v = get_or c.args.targets.now c.loop-k.k (pos 0) in to_z w64 (of_z w64 v) ≡ v
+of-target c = back w64 (get_or c.args.targets.now c.loop-k.k (pos 0)) c.target-1.given
 
 returns : tie.Need-returns-then-most-target invariant-loop decreases-loop
 returns c =
     let l = c.before.before.before in
-    sym (first-unique (above l.before) 0 _ l.loop-k.k (omega arith) (omega arith) (λ j _ m. passed l j m) (λ _. rw (to_z-of_z l.before.ranges.most, of-target c.before) at c.if-most-target.true))
+    sym (first-unique (above l.before) 0 _ l.loop-k.k (omega arith) (omega arith) (λ j _ m. passed l j m) (λ _. rw (to_z-of_z l.ranges.most, of-target c.before) at c.if-most-target.true))
 
 add-k : tie.Need-overflow_add-k invariant-loop decreases-loop
 add-k c = search rules

@@ -21,7 +21,7 @@ use Rattle.run_calls.proofs.hop.Statement.{statement}
 use Rattle.run_calls.proofs.hop.Tie as tie
 
 asked : (s : tie.Start) → Hop s.args.base s.args.step s.args.at s.args.value s.args.target
-asked s = s.pre
+asked s = s.requires
 
 -- the numbers after their bits
 module _ (s : tie.Start) where
@@ -38,7 +38,7 @@ module _ (s : tie.Start) where
   of-base = to_z-of_z s.ranges.base
 
 -- the element where it stands is below the target
-low : (c : tie.Else-target-value) → lt_z c.before.args.value c.before.args.target ≡ true
+low : (c : tie.Else-target-value) → lt_z c.args.value c.args.target ≡ true
 low c = let s = c.before in lt-is s.args.target s.args.value ∙ ap not (rw (of-target s, of-value s) at c.if-target-value.false)
 
 returns : tie.Need-returns-then-target-value
@@ -47,7 +47,7 @@ returns c =
     rw (of-value s) (stays _ _ _ _ _ (asked s) (lt-is s.args.target s.args.value ∙ ap not (rw (of-target s, of-value s) at c.if-target-value.true)))
 
 cast-by : tie.Need-overflow_cast-by
-cast-by c = rw (to_z-of_z c.before.ranges.step) (record { sfits = omega arith })
+cast-by c = rw (to_z-of_z c.ranges.step) (record { sfits = omega arith })
 
 add-next : tie.Need-overflow_add-next
 add-next c = let s = c.before in rw (of-value s, of-step s) (record { sfits = next_fits _ _ _ _ _ (asked s) (low c) })
@@ -77,8 +77,8 @@ module _ (c : tie.After-bias-2) where
   abbrev from : tie.Else-target-value
   from = c.before.before.before
 
-  to-key : c.before.bias.result ≡ key half64 from.before.args.target
-  to-key = c.before.bias.ensures ∙ ap (key half64) (of-target from.before)
+  to-key : c.bias.result ≡ key half64 from.before.args.target
+  to-key = c.bias.ensures ∙ ap (key half64) (of-target from.before)
 
   base_key : c.bias-2.result ≡ key half64 from.before.args.base
   base_key = c.bias-2.ensures ∙ ap (key half64) (of-base from.before)
@@ -103,7 +103,7 @@ module _ (c : tie.After-size16) where
   of_size = c.size16.ensures ∙ ap nat_abs (to_z-of_z start.ranges.step)
 
   abbrev k : ℕ
-  k = (c.before.before.bias.result - c.before.bias-2.result - 1) / c.size16.result + 1
+  k = (c.bias.result - c.bias-2.result - 1) / c.size16.result + 1
 
   is-k : k ≡ (key half64 start.args.target - key half64 start.args.base - 1) / nat_abs start.args.step + 1
   is-k = quotient-same (to-key c.before) (base_key c.before) of_size

@@ -36,16 +36,16 @@ module _ (s : tie.Start invariant-loop decreases-loop) where
   of-by = rw of-step (back w64 s.args.step (omega arith))
 
   of-top : to_z w64 (s.args.elements - 1) ≡ pos (s.args.elements - 1)
-  of-top = to_z_pos w64 (omega (arith, s.pre.0.few))
+  of-top = to_z_pos w64 (omega (arith, s.requires.0.few))
 
   product : mag (s.args.step *ℤ pos (s.args.elements - 1)) < half64
-  product = product-fits s.args.step (s.args.elements - 1) s.ranges.step.sfits (omega (arith, s.pre.0.few))
+  product = product-fits s.args.step (s.args.elements - 1) s.ranges.step.sfits (omega (arith, s.requires.0.few))
 
   of-product : to_z w64 (of_z w64 (s.args.step *ℤ pos (s.args.elements - 1))) ≡ s.args.step *ℤ pos (s.args.elements - 1)
   of-product = back w64 (s.args.step *ℤ pos (s.args.elements - 1)) product
 
   last_fits : mag (offset s.args.base s.args.step (s.args.elements - 1)) < half64
-  last_fits = s.pre.0.fits (s.args.elements - 1) (omega (arith, s.pre.0.some))
+  last_fits = s.requires.0.fits (s.args.elements - 1) (omega (arith, s.requires.0.some))
 
   of-last : to_z w64 (of_z w64 (to_z w64 (of_z w64 s.args.base) +ℤ to_z w64 (of_z w64 (to_z w64 (of_z w64 (to_z w16 (of_z w16 s.args.step))) *ℤ to_z w64 (s.args.elements - 1)))))
       ≡ offset s.args.base s.args.step (s.args.elements - 1)
@@ -55,21 +55,21 @@ module _ (s : tie.Start invariant-loop decreases-loop) where
 
 
 module _ (c : tie.At-loop-k invariant-loop decreases-loop) where
-  inv : let a = c.before.args in Making a.base a.step a.elements a.targets.now a.out.now a.count c.loop-k.at (to_z w64 c.loop-k.value) c.loop-k.k c.loop-k.out
+  inv : let a = c.args in Making a.base a.step a.elements a.targets.now a.out.now a.count c.loop-k.at (to_z w64 c.loop-k.value) c.loop-k.k c.loop-k.out
   inv = rw (of-base c.before, of-step c.before) at c.loop-k.invariant
 
-  long : length c.loop-k.out ≡ length c.before.args.out.now
-  long = making-long _ _ _ _ _ inv c.before.requires.1.1
+  long : length c.loop-k.out ≡ length c.args.out.now
+  long = making-long _ _ _ _ _ inv c.requires.1.1
 
 -- the target that is read
 abbrev read : tie.After-target-1 invariant-loop decreases-loop → ℤ
-read c = let l = c.before.before in get_or l.before.args.targets.now l.loop-k.k (pos 0)
+read c = let l = c.before.before in get_or l.args.targets.now l.loop-k.k (pos 0)
 
 of-target : (c : tie.After-target-1 invariant-loop decreases-loop) → to_z w64 (of_z w64 (read c)) ≡ read c
 of-target c = back w64 (read c) c.target-1.given
 
 -- it is not above the last element
-meets : (c : tie.Else-last-target invariant-loop decreases-loop) → let at-loop = c.before.before.before in let a = at-loop.before.args in
+meets : (c : tie.Else-last-target invariant-loop decreases-loop) → let at-loop = c.before.before.before in let a = at-loop.args in
     lt_z (offset (to_z w64 (of_z w64 a.base)) (to_z w16 (of_z w16 a.step)) (a.elements - 1)) (read c.before) ≡ false
 meets c =
     let at-loop = c.before.before.before in
@@ -101,7 +101,7 @@ mul-target : tie.Need-offset_bounds-targets-k invariant-loop decreases-loop
 mul-target c = search rules
 
 shared-slice-copy-out-target : tie.Need-bounds-targets-k invariant-loop decreases-loop
-shared-slice-copy-out-target c = omega (arith, c.loop-k-test.true, c.before.before.requires.1.0)
+shared-slice-copy-out-target c = omega (arith, c.loop-k-test.true, c.requires.1.0)
 
 same_length : tie.Need-shape_of-out-then-last-target invariant-loop decreases-loop
 same_length c =
@@ -131,7 +131,7 @@ slice-set-from-value c =
     let at-else = c.before.before in
     let in-loop = at-else.before.before in
     let at-loop = in-loop.before in
-    omega (arith, long at-loop, in-loop.loop-k-test.true, at-loop.before.requires.1.1)
+    omega (arith, long at-loop, in-loop.loop-k-test.true, at-loop.requires.1.1)
 
 add-k : tie.Need-overflow_add-k invariant-loop decreases-loop
 add-k c = search rules
@@ -139,8 +139,8 @@ add-k c = search rules
 loop-less : tie.Need-loop-k-smaller invariant-loop decreases-loop
 loop-less c = search rules
 
-of-value : (c : tie.After-struct_told-1 invariant-loop decreases-loop) → let v = c.before.hop-spot.result.value in to_z w64 (of_z w64 v) ≡ v
-of-value c = back w64 c.before.hop-spot.result.value (omega (arith, c.struct_told-1.given, c.before.hop-spot.type_inv))
+of-value : (c : tie.After-struct_told-1 invariant-loop decreases-loop) → let v = c.hop-spot.result.value in to_z w64 (of_z w64 v) ≡ v
+of-value c = back w64 c.hop-spot.result.value (omega (arith, c.struct_told-1.given, c.hop-spot.type_inv))
 
 loop-again : tie.Need-loop-k-preserved invariant-loop decreases-loop
 loop-again c =
@@ -149,7 +149,7 @@ loop-again c =
     let at-loop = in-loop.before in
     let s = at-loop.before in
     making-more _ _ _ _ _ at-loop.loop-k.invariant s.requires.1.1 in-loop.loop-k-test.true (omega (arith, in-loop.loop-k-test.true, s.requires.1.0)) (meets at-else) _ _
-    (rw (of-value c) (rw (of-target at-else.before) at c.before.hop-spot.ensures))
+    (rw (of-value c) (rw (of-target at-else.before) at c.hop-spot.ensures))
 
 same-length-2 : tie.Need-shape_of-out invariant-loop decreases-loop
 same-length-2 c = long c.before

@@ -28,7 +28,7 @@ enum_told c = search rules
 returns : tie.Need-returns-then-targets-eq0
 returns c =
     let at_told = c.before in
-    let f = at_told.before.before in
+    let f = at_told.before in
     let s = start f in
     given-run _ _ _ _ _ _ (given-none (sequence_of (col s)) s.args.scan s.args.targets.now s.args.out.now c.if-targets-eq0.true)
     (seek-run-given (col s) s.args.scan _ (sym (ap says_footed at_told.in-Past.is) ∙ f.find_footing-footed.ensures) _ _)
@@ -38,23 +38,23 @@ enum-known-footed-2 c = search rules
 
 seeks-from-requires : tie.Need-seeks_from-requires
 seeks-from-requires c κs =
-    let at-footed = c.before.before in
-    let f = at-footed.before.before in
+    let at-footed = c.before in
+    let f = at-footed.before in
     let s = start f in
     let b = begun (col s) s.args.scan _ (sym (ap says_footed at-footed.in-On.is) ∙ f.find_footing-footed.ensures) in
     (b.1, b.0)
 
 returns-2 : tie.Need-returns-in-Refused
 returns-2 c =
-    let at-footed = c.before in
-    let f = at-footed.before.before in
+    let at-footed = c in
+    let f = at-footed.before in
     let s = start f in
     run-refused s.args.scan _ _ _ _ (seek-run-refused (col s) s.args.scan _ _ _ (sym (ap says_footed at-footed.in-Refused.is) ∙ f.find_footing-footed.ensures))
 
 returns-3 : tie.Need-returns-else-targets-eq0
 returns-3 c =
     let at_told = c.before in
-    let f = at_told.before.before in
+    let f = at_told.before in
     let s = start f in
     let h = sym (ap says_footed at_told.in-Past.is) ∙ f.find_footing-footed.ensures in
     given-run _ _ _ _ _ _ (given-ended (sequence_of (col s)) s.args.scan s.args.targets.now s.args.out.now _ refl (omega (arith, c.if-targets-eq0.false)) (past_end (col s) s.args.scan h))
@@ -66,8 +66,8 @@ same_length c = search rules
 returns-4 : tie.Need-returns-in-On
 returns-4 c =
     let ran = c.before in
-    let at-footed = ran.before.before.before in
-    let f = at-footed.before.before in
+    let at-footed = ran.before.before in
+    let f = at-footed.before in
     let s = start f in
     given-run _ _ _ _ _ _ ran.seeks_from.ensures (seek-run-given (col s) s.args.scan _ (sym (ap says_footed at-footed.in-On.is) ∙ f.find_footing-footed.ensures) _ _)
 

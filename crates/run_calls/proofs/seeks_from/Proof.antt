@@ -27,7 +27,7 @@ module _ (s : tie.Start) where
   seq = sequence_of col
 
   stood : Stands col s.args.footing.index s.args.scan.end s.args.footing
-  stood = stands col s.args.footing.index s.args.scan.end s.args.footing s.pre.0.is
+  stood = stands col s.args.footing.index s.args.scan.end s.args.footing s.requires.0.is
 
 -- past the count
 module _ (c : tie.After-answered-count) where
@@ -38,14 +38,14 @@ module _ (c : tie.After-answered-count) where
   st = at-else.before.before
 
   of-most : to_z w64 (of_z w64 st.args.footing.most) ≡ st.args.footing.most
-  of-most = back w64 st.args.footing.most (omega (arith, c.before.struct_told-1.given))
+  of-most = back w64 st.args.footing.most (omega (arith, c.struct_told-1.given))
 
   before : Before ((seq st).at (st.args.scan.end - 1)) st.args.targets.now (length st.args.targets.now) c.answered-count.result
   before = reached-known ((seq st).at (st.args.scan.end - 1)) st.args.targets.now (length st.args.targets.now) c.answered-count.result
       (c.answered-count.ensures ∙ ap (λ z. reached z st.args.targets.now (length st.args.targets.now)) (of-most ∙ (stood st).most-is))
 
   known : Answered (seq st) st.args.targets.now st.args.scan st.args.footing.index c.answered-count.result
-  known = seeks-answered (seq st) st.args.targets.now st.args.scan _ _ st.pre.1 (stood st).there st.pre.0.rising before
+  known = seeks-answered (seq st) st.args.targets.now st.args.scan _ _ st.requires.1 (stood st).there st.requires.0.rising before
 
 returns : tie.Need-returns-then-targets-eq0
 returns c = let s = c.before.before in given-none (seq s) s.args.scan s.args.targets.now s.args.out.now c.if-targets-eq0.true
@@ -57,13 +57,13 @@ returns-2 : tie.Need-returns-then-out-count
 returns-2 c =
     let a = c.before in
     let s = st a in
-    given-room (seq s) s.args.scan s.args.targets.now s.args.out.now _ s.pre.1 _ (known a) c.if-out-count.true
+    given-room (seq s) s.args.scan s.args.targets.now s.args.out.now _ s.requires.1 _ (known a) c.if-out-count.true
 
 write-seeks-requires : tie.Need-write_seeks-index-requires
 write-seeks-requires c κs =
     let a = c.before.before in
     let s = st a in
-    (s.pre.0, (((before a).0, c.before.if-out-count.false), λ k l. ap (λ z. lt_z z (get_or s.args.targets.now k (pos 0))) (stood s).most-is ∙ (before a).1 k l))
+    (s.requires.0, (((before a).0, c.if-out-count.false), λ k l. ap (λ z. lt_z z (get_or s.args.targets.now k (pos 0))) (stood s).most-is ∙ (before a).1 k l))
 
 same_length : tie.Need-shape_of-out-then-count-targets
 same_length c = search rules
@@ -74,7 +74,7 @@ returns-3 c =
     let at-else = w.before.before in
     let a = at-else.before in
     let s = st a in
-    given-cut (seq s) s.args.scan s.args.targets.now s.args.out.now _ s.pre.1 _ (known a) _ at-else.if-out-count.false w.write_seeks-index.ensures.1 c.if-count-targets.true
+    given-cut (seq s) s.args.scan s.args.targets.now s.args.out.now _ s.requires.1 _ (known a) _ at-else.if-out-count.false w.write_seeks-index.ensures.1 c.if-count-targets.true
 
 -- all are answered
 some : (c : tie.Else-count-targets) → let w = c.before.before in let a = w.before.before.before in 0 < a.answered-count.result
@@ -102,7 +102,7 @@ returns-4 c =
     let at-else = w.before.before in
     let a = at-else.before in
     let s = st a in
-    given-all (seq s) s.args.scan s.args.targets.now s.args.out.now _ s.pre.1 _ (known a) _ at-else.if-out-count.false w.write_seeks-index.ensures.1 _ _ w.write_seeks-index.ensures.0
+    given-all (seq s) s.args.scan s.args.targets.now s.args.out.now _ s.requires.1 _ (known a) _ at-else.if-out-count.false w.write_seeks-index.ensures.1 _ _ w.write_seeks-index.ensures.0
     (back w64 _ c.value-1.given) (omega (arith, (before a).0, e.if-count-targets.false)) (some e)
 
 pub seeks_from_spec : {M : Type 1} → statement M

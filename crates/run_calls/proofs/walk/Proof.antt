@@ -23,15 +23,15 @@ invariant-loop starts target from last run₀ run = (from ≤ run) × (run ≤ l
 abbrev decreases-loop : tie.decreases-loop-run
 decreases-loop starts target from last run₀ run = last - run
 
-abbrev above : tie.Start invariant-loop decreases-loop → ℕ → Bool
+abbrev above : tie.start-1 invariant-loop decreases-loop → ℕ → Bool
 above s k = lt_z s.args.target (get_or s.args.starts.now (suc k) (pos 0))
 
-passed : (c : tie.At-loop-run invariant-loop decreases-loop) (j : ℕ) → c.before.args.from ≤ j → j < c.loop-run.run → above c.before j ≡ false
-passed c = rw (to_z-of_z c.before.ranges.target) at c.loop-run.invariant.2
+passed : (c : tie.At-loop-run invariant-loop decreases-loop) (j : ℕ) → c.args.from ≤ j → j < c.loop-run.run → above c.before j ≡ false
+passed c = rw (to_z-of_z c.ranges.target) at c.loop-run.invariant.2
 
 -- the start that is read
-of-start : (c : tie.After-start-1 invariant-loop decreases-loop) → let v = get_or c.before.before.before.args.starts.now (c.before.before.loop-run.run + 1) (pos 0) in to_z w64 (of_z w64 v) ≡ v
-of-start c = back w64 (get_or c.before.before.before.args.starts.now (c.before.before.loop-run.run + 1) (pos 0)) c.start-1.given
+of-start : (c : tie.After-start-1 invariant-loop decreases-loop) → let v = get_or c.args.starts.now (c.loop-run.run + 1) (pos 0) in to_z w64 (of_z w64 v) ≡ v
+of-start c = back w64 (get_or c.args.starts.now (c.loop-run.run + 1) (pos 0)) c.start-1.given
 
 loop-holds : tie.Need-loop-run-init invariant-loop decreases-loop
 loop-holds c = (le_refl _, c.requires.0, λ j a b. absurd (omega arith))
@@ -43,14 +43,14 @@ mul-start : tie.Need-offset_bounds-starts-run invariant-loop decreases-loop
 mul-start c = search rules
 
 shared-slice-copy-out-start : tie.Need-bounds-starts-run invariant-loop decreases-loop
-shared-slice-copy-out-start c = omega (arith, c.loop-run-test.true, c.before.before.requires.1)
+shared-slice-copy-out-start c = omega (arith, c.loop-run-test.true, c.requires.1)
 
 returns : tie.Need-returns-then-target-start invariant-loop decreases-loop
 returns c =
     let l = c.before.before.before in
     let n : suc l.loop-run.run ≡ l.loop-run.run + 1 = omega arith in
-    sym (first-unique (above l.before) l.before.args.from _ l.loop-run.run l.loop-run.invariant.0 l.loop-run.invariant.1 (passed l)
-    (λ _. rw n (rw (to_z-of_z l.before.ranges.target, of-start c.before) at c.if-target-start.true)))
+    sym (first-unique (above l.before) l.args.from _ l.loop-run.run l.loop-run.invariant.0 l.loop-run.invariant.1 (passed l)
+    (λ _. rw n (rw (to_z-of_z l.ranges.target, of-start c.before) at c.if-target-start.true)))
 
 add-run : tie.Need-overflow_add-run invariant-loop decreases-loop
 add-run c = search rules
@@ -62,7 +62,7 @@ loop-again : tie.Need-loop-run-preserved invariant-loop decreases-loop
 loop-again c =
     let l = c.before.before.before in (
       omega (arith, l.loop-run.invariant.0),
-      omega (arith, c.before.before.loop-run-test.true),
+      omega (arith, c.loop-run-test.true),
       λ j a b. ⊎_elim
           (λ (g : j < l.loop-run.run). l.loop-run.invariant.2 j a g)
           (λ (g : l.loop-run.run ≤ j). let n : suc j ≡ l.loop-run.run + 1 = omega arith in rw n (rw (of-start c.before) at c.if-target-start.false))
@@ -72,7 +72,7 @@ loop-again c =
 returns-2 : tie.Need-returns invariant-loop decreases-loop
 returns-2 c =
     let l = c.before in
-    sym (first-unique (above l.before) l.before.args.from _ l.loop-run.run l.loop-run.invariant.0 l.loop-run.invariant.1 (passed l) (λ m. absurd (omega (arith, c.loop-run-test.false))))
+    sym (first-unique (above l.before) l.args.from _ l.loop-run.run l.loop-run.invariant.0 l.loop-run.invariant.1 (passed l) (λ m. absurd (omega (arith, c.loop-run-test.false))))
 
 pub walk_spec : {M : Type 1} → statement M
 walk_spec = tie.close (tie.spec invariant-loop decreases-loop loop-holds add_start mul-start shared-slice-copy-out-start returns add-run loop-less loop-again returns-2)

@@ -34,10 +34,10 @@ module _ (s : tie.Start invariant-loop decreases-loop) where
   col = column_now s.args.starts s.args.ends s.args.steps
 
   whole : Sound col
-  whole = sound-parts col s.pre.0.whole
+  whole = sound-parts col s.requires.0.whole
 
   stood : Stands col s.args.footing.index s.args.end s.args.footing
-  stood = stands col s.args.footing.index s.args.end s.args.footing s.pre.0.is
+  stood = stands col s.args.footing.index s.args.end s.args.footing s.requires.0.is
 
 -- ---- at the loop
 
@@ -50,10 +50,10 @@ module _ (c : tie.At-loop-k invariant-loop decreases-loop) where
   entered = c.loop-k.invariant.entered
 
   here : c.loop-k.run < length start.args.ends.now
-  here = held (col start) (whole start) start.args.end start.args.footing.index start.pre.0.fit start.pre.0.rising entered
+  here = held (col start) (whole start) start.args.end start.args.footing.index start.requires.0.fit start.requires.0.rising entered
 
   long : length c.loop-k.out ≡ length start.args.out.now
-  long = seeking-long (col start) (whole start) start.args.end start.args.footing.index start.pre.0.fit start.pre.0.rising start.args.targets.now start.args.out.now start.args.count start.pre.1.0.0 start.pre.1.0.1 c.loop-k.invariant
+  long = seeking-long (col start) (whole start) start.args.end start.args.footing.index start.requires.0.fit start.requires.0.rising start.args.targets.now start.args.out.now start.args.count start.requires.1.0.0 start.requires.1.0.1 c.loop-k.invariant
 
 -- ---- the needs
 
@@ -89,7 +89,7 @@ module _ (c : tie.After-smaller-upto invariant-loop decreases-loop) where
   from = start at-loop
 
   index-before : at-loop.loop-k.index < c.smaller-upto.result
-  index-before = after (col from) (whole from) from.args.end from.args.footing.index from.pre.0.fit from.pre.0.rising (entered at-loop) _ c.smaller-upto.ensures
+  index-before = after (col from) (whole from) from.args.end from.args.footing.index from.requires.0.fit from.requires.0.rising (entered at-loop) _ c.smaller-upto.ensures
 
 mul-run-seeks : tie.Need-offset_bounds-steps-run invariant-loop decreases-loop
 mul-run-seeks c = omega (arith, here (at-loop c), (whole (from c)).shaped.few)
@@ -104,10 +104,10 @@ mul-run-seeks-2 : tie.Need-offset_bounds-targets-k invariant-loop decreases-loop
 mul-run-seeks-2 c = search rules
 
 sub-run-seeks-2 : tie.Need-slice_bounds-run_seeks-count invariant-loop decreases-loop
-sub-run-seeks-2 c = let l = at-loop c.before in omega (arith, l.loop-k.invariant.few, (start l).pre.1.0.0)
+sub-run-seeks-2 c = let l = at-loop c.before in omega (arith, l.loop-k.invariant.few, (start l).requires.1.0.0)
 
 part-run-seeks-start : tie.Need-slice_bounds-run_seeks-start invariant-loop decreases-loop
-part-run-seeks-start c = let l = at-loop c.before in omega (arith, l.loop-k.invariant.few, (start l).pre.1.0.0)
+part-run-seeks-start c = let l = at-loop c.before in omega (arith, l.loop-k.invariant.few, (start l).requires.1.0.0)
 
 part-run-seeks-end : tie.Need-slice_bounds-run_seeks-end invariant-loop decreases-loop
 part-run-seeks-end c = search rules
@@ -119,10 +119,10 @@ mul-run-seeks-3 : tie.Need-offset_bounds-out-k invariant-loop decreases-loop
 mul-run-seeks-3 c = search rules
 
 sub-run-seeks-4 : tie.Need-slice_bounds-run_seeks-count-in-loop-k invariant-loop decreases-loop
-sub-run-seeks-4 c = let l = at-loop c.before.before in omega (arith, l.loop-k.invariant.few, long l, (start l).pre.1.0.1)
+sub-run-seeks-4 c = let l = at-loop c.before.before in omega (arith, l.loop-k.invariant.few, long l, (start l).requires.1.0.1)
 
 part-run-seeks-start-2 : tie.Need-slice_bounds-run_seeks-start-in-loop-k invariant-loop decreases-loop
-part-run-seeks-start-2 c = let l = at-loop c.before.before in omega (arith, l.loop-k.invariant.few, long l, (start l).pre.1.0.1)
+part-run-seeks-start-2 c = let l = at-loop c.before.before in omega (arith, l.loop-k.invariant.few, long l, (start l).requires.1.0.1)
 
 part-run-seeks-end-2 : tie.Need-slice_bounds-run_seeks-end-in-loop-k invariant-loop decreases-loop
 part-run-seeks-end-2 c = search rules
@@ -138,8 +138,8 @@ run-seeks-requires c κs =
     let l = at-loop at-smaller in
     let s = start l in
     let few = l.loop-k.invariant.few in (
-      rw (of-step at_arg) (strip (col s) (whole s) s.args.end s.args.footing.index s.pre.0.fit s.pre.0.rising (entered l) _ at-smaller.smaller-upto.ensures),
-      (rest-long s.args.targets.now l.loop-k.k _ (omega (arith, few, s.pre.1.0.0)), rest-long l.loop-k.out l.loop-k.k _ (omega (arith, few, long l, s.pre.1.0.1))),
+      rw (of-step at_arg) (strip (col s) (whole s) s.args.end s.args.footing.index s.requires.0.fit s.requires.0.rising (entered l) _ at-smaller.smaller-upto.ensures),
+      (rest-long s.args.targets.now l.loop-k.k _ (omega (arith, few, s.requires.1.0.0)), rest-long l.loop-k.out l.loop-k.k _ (omega (arith, few, long l, s.requires.1.0.1))),
     )
 
 -- what the run's seeks come to
@@ -160,8 +160,8 @@ module _ (c : tie.After-run_seeks-sought invariant-loop decreases-loop) where
 
   turned : Turn (col s) s.args.end s.args.footing.index s.args.targets.now s.args.out.now s.args.count in-turn.loop-k.run in-turn.loop-k.index
       (to_z w64 in-turn.loop-k.base) in-turn.loop-k.k in-turn.loop-k.out at_arg.before.smaller-upto.result rest c.run_seeks-sought.result.made c.run_seeks-sought.result.at
-  turned = turn (col s) (whole s) s.args.end s.args.footing.index s.pre.0.fit s.pre.0.rising s.args.targets.now s.args.out.now s.args.count
-      s.pre.1.0.0 s.pre.1.0.1 in-turn.loop-k.invariant at_arg.before.smaller-upto.result at_arg.before.smaller-upto.ensures rest (rest-is s.args.targets.now in-turn.loop-k.k) _ _
+  turned = turn (col s) (whole s) s.args.end s.args.footing.index s.requires.0.fit s.requires.0.rising s.args.targets.now s.args.out.now s.args.count
+      s.requires.1.0.0 s.requires.1.0.1 in-turn.loop-k.invariant at_arg.before.smaller-upto.result at_arg.before.smaller-upto.ensures rest (rest-is s.args.targets.now in-turn.loop-k.k) _ _
       (rw (of-step at_arg) at c.run_seeks-sought.ensures.0) (rw (of-step at_arg) at c.run_seeks-sought.ensures.1.0)
 
 add-k : tie.Need-overflow_add-k invariant-loop decreases-loop
@@ -187,16 +187,16 @@ module _ (c : tie.Else-k-count invariant-loop decreases-loop) where
   less = omega (arith, (turned at-run).few, c.if-k-count.false)
 
   near : lt_z (element_at (col (s at-run)) ((s at-run).args.end - 1)) (get_or (s at-run).args.targets.now k (pos 0)) ≡ false
-  near = ap (λ z. lt_z z (get_or (s at-run).args.targets.now k (pos 0))) (sym (stood (s at-run)).most-is) ∙ (s at-run).pre.1.1 k less
+  near = ap (λ z. lt_z z (get_or (s at-run).args.targets.now k (pos 0))) (sym (stood (s at-run)).most-is) ∙ (s at-run).requires.1.1 k less
 
   more : ((in-turn at-run).loop-k.run + 1 ≤ (s at-run).args.footing.last) × ((s at-run).args.footing.last < length (s at-run).args.ends.now)
   more = (turned at-run).more less _ (stood (s at-run)).last-is near
 
 mul-walk : tie.Need-offset_bounds-targets-k-in-loop-k invariant-loop decreases-loop
-mul-walk c = omega (arith, less c, (s (at-run c)).pre.1.0.0, (s (at-run c)).good)
+mul-walk c = omega (arith, less c, (s (at-run c)).requires.1.0.0, (s (at-run c)).well_formed)
 
 shared-slice-copy-out-walk : tie.Need-bounds-targets-k invariant-loop decreases-loop
-shared-slice-copy-out-walk c = omega (arith, less c, (s (at-run c)).pre.1.0.0)
+shared-slice-copy-out-walk c = omega (arith, less c, (s (at-run c)).requires.1.0.0)
 
 add-walk : tie.Need-overflow_add-run invariant-loop decreases-loop
 add-walk c = let r = at-run c.before in omega (arith, here (in-turn r), (whole (s r)).shaped.few)
@@ -213,7 +213,7 @@ module _ (c : tie.After-walk-run invariant-loop decreases-loop) where
   x = get_or (s (at-run at-else)).args.targets.now (k at-else) (pos 0)
 
   of-x : to_z w64 (of_z w64 x) ≡ x
-  of-x = back w64 x c.before.walk-arg-1.given
+  of-x = back w64 x c.walk-arg-1.given
 
   went : let r = at-run at-else in Onward (col (s r)) (s r).args.end (s r).args.footing.index (s r).args.targets.now (s r).args.out.now (s r).args.count
       (in-turn r).loop-k.run (k at-else) (s r).args.footing.last x c.walk-run.result

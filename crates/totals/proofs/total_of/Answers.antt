@@ -10,8 +10,6 @@ use borrow.Author.Rules.{rules}
 use Rattle.totals.proofs.total_of.Goals as goal
 
 pub returns : goal.returns
-returns c = let h = c.before in
-    let e = h.before in
-    let s = e.args.s in
+returns c =    let s = c.args.s in
     λ xs m held is. let sum = ap (sum_in s) is ∙ holds-sum s xs m held in
-    total_made xs _ _ _ _ is (e.edges_of-edges.ensures xs m held is) (back w64 h.high_of-high.result h.high_of-high.type_inv ∙ h.high_of-high.ensures ∙ ap high_of sum) (c.low_of-low.ensures ∙ ap low_of sum)
+    total_made xs _ _ _ _ is (c.edges_of-edges.ensures xs m held is) (back w64 c.high_of-high.result c.high_of-high.type_inv ∙ c.high_of-high.ensures ∙ ap high_of sum) (c.low_of-low.ensures ∙ ap low_of sum)

@@ -45,13 +45,13 @@ module _ (c : tie.After-measure-all) where
   edges_at k = edges_of (elements_at seq start.args.from.now start.args.to.now k)
 
   n-long : length start.args.numbers.now ≡ length start.args.from.now
-  n-long = numbers-long seq start.args.from.now start.args.to.now start.args.numbers.now start.pre.1.1.0
+  n-long = numbers-long seq start.args.from.now start.args.to.now start.args.numbers.now start.requires.1.1.0
 
   abbrev n-of : ℕ
   n-of = length start.args.from.now
 
   few : length start.args.numbers.now ≤ 256
-  few = omega (arith, n-long, start.pre.1.0.few)
+  few = omega (arith, n-long, start.requires.1.0.few)
 
   least-there : length start.args.numbers.now ≤ length c.measure-all.new.1.1.1.1.1.0
   least-there = omega (arith, few, c.measure-all.auto.1.1.1.1.1.0)
@@ -69,7 +69,7 @@ module _ (c : tie.After-measure-all) where
   there l = omega (arith, n-long)
 
   count-told : start.args.count ≡ length xs
-  count-told = start.pre.1.1.1 ∙ sym (over-length seq start.args.from.now start.args.to.now (length start.args.from.now))
+  count-told = start.requires.1.1.1 ∙ sym (over-length seq start.args.from.now start.args.to.now (length start.args.from.now))
 
   sum_is : sum_in c.measure-all.result start.args.count ≡ sum_of xs
   sum_is = ap (sum_in c.measure-all.result) count-told ∙ holds-sum c.measure-all.result xs 1048576 c.measure-all.ensures.0
@@ -81,7 +81,7 @@ high-told : (c : tie.After-has_high) → c.has_high.result ≡ has_high (sum_of 
 high-told c = c.has_high.ensures ∙ ap has_high (sum_is (measured c.before))
 
 fits-high : (c : tie.Else-not-has_high) → has_high (sum_of (xs (measured c.before.before))) ≡ true
-fits-high c = sym (high-told c.before) ∙ not-false c.before.has_high.result c.if-not-has_high.false-raw
+fits-high c = sym (high-told c.before) ∙ not-false c.has_high.result c.if-not-has_high.false-raw
 
 abbrev tried : tie.Else-is_short → tie.After-measure-all
 tried c =
@@ -132,7 +132,7 @@ measure-requires : tie.Need-measure-all-requires
 measure-requires c κs = let g = c.before.before in
     let k2 = g.before.before in
     let s = begun k2 in
-    (s.pre.0, (s.pre.1.0, (omega arith, omega arith, omega arith, omega arith)))
+    (s.requires.0, (s.requires.1.0, (omega arith, omega arith, omega arith, omega arith)))
 
 has-high-requires : tie.Need-has_high-requires
 has-high-requires c κs = (holds-few _ _ 1048576 2097152 (omega arith) (measured c).measure-all.ensures.0).within
@@ -214,7 +214,7 @@ returns-3 c = let k4 = c.before in
     let m = tried e in
     let s = start m in
     let w = wrote k4 in
-    let n = s.pre.1.1.0 in
+    let n = s.requires.1.1.0 in
     let f = m.measure-all.ensures.0.fits in (
       up-given (xs m) (n-of m) (rooms_of s) (fits-high e.before.before) (sym (short-told e.before) ∙ e.if-is_short.false) _ (c.total_of.ensures (xs m) 1048576 m.measure-all.ensures.0 (count-told m)),
       (

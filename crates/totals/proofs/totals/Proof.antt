@@ -27,12 +27,12 @@ enum_told c = search rules
 totals-sound-requires : tie.Need-totals_sound-requires
 totals-sound-requires c κs = let a2 = c.before.before.before in
     let t = a2.before.before in
-    let k = t.before.before in
+    let k = t.before in
     was-sound (col (start k)) k.check.result k.check.ensures t.in-Fine.is
 
 returns : tie.Need-returns-in-Refused
-returns c = let w = c.before in
-    let k = w.before.before in
+returns c = let w = c in
+    let k = w.before in
     (totals-checked _ _ _ _ _ (was-refused _ _ k.check.ensures _ w.in-Refused.is), (refl, (refl, (refl, (refl, refl)))))
 
 same_length : tie.Need-shape_of-counts
@@ -56,7 +56,7 @@ returns-2 c = let g = c.before.before.before in
     let u = k3.before.before in
     let a3 = u.before.before.before in
     let t = a3.before.before.before in
-    let k = t.before.before in
+    let k = t.before in
     (totals-on _ _ _ _ (was-fine (source_of (col (start k))) k.check.result k.check.ensures t.in-Fine.is) _ u.totals_sound.ensures.0, u.totals_sound.ensures.1)
 
 pub totals_spec : {M : Type 1} → statement M

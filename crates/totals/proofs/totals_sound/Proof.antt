@@ -42,14 +42,14 @@ module _ (s : tie.Start) where
 room : (c : tie.After-count_all) → let e = c.before.before.before in let s = start e.before.before in length s.args.from.now ≤ length c.count_all.new.1.1.1.0
 room c =
     let e = c.before.before.before in
-    omega (arith, e.before.if-n-gt256.false, c.count_all.auto.1.1.1.0)
+    omega (arith, e.if-n-gt256.false, c.count_all.auto.1.1.1.0)
 
 -- each window ends inside
-within : (c : tie.In-All-2) → let m = c.before.before.before in let e = m.before.before.before in let s = start e.before.before in
+within : (c : tie.In-All) → let m = c.before.before in let e = m.before.before.before in let s = start e.before.before in
     ends_within (size_of (col s)) s.args.from.now s.args.to.now ≡ true
 within c =
-    let m = c.before.before.before in
-    rw m.before.before.end_Before.ensures at (counted-all _ _ _ _ _ _ m.count_all.ensures _ c.in-All.is).inside
+    let m = c.before.before in
+    rw m.end_before.ensures at (counted-all _ _ _ _ _ _ m.count_all.ensures _ c.in-All.is).inside
 
 returns : tie.Need-returns-then-n-gt256
 returns c = let s = start c.before in (sound-many (sq s) (ss s) (es s) (rooms s) c.if-n-gt256.true, (refl, (refl, (refl, (refl, refl)))))
@@ -67,7 +67,7 @@ count-all-requires : tie.Need-count_all-requires
 count-all-requires c κs = let b = c.before in
     let e = b.before in
     let s = start e.before.before in
-    ((sym e.if-to-n.false, e.before.if-n-gt256.false, e.before.if-n-gt256.false), rw b.end_Before.ensures (size-most _ (sound-parts _ s.pre)))
+    ((sym e.if-to-n.false, e.if-n-gt256.false, e.if-n-gt256.false), rw b.end_before.ensures (size-most _ (sound-parts _ s.requires)))
 
 enum_told : tie.Need-enum_told-1
 enum_told c = search rules
@@ -76,31 +76,31 @@ enum-known-count : tie.Need-enum_known-count
 enum-known-count c = search rules
 
 array-share-prefix-numbers : tie.Need-slice_bounds-numbers-end
-array-share-prefix-numbers c = let k = c.before in
-    let n2 = k.before.before in
+array-share-prefix-numbers c = let k = c in
+    let n2 = k.before in
     room n2.before
 
 slice-aggregate-total-up : tie.Need-slice_bounds-total_up-end
-slice-aggregate-total-up c = let k = c.before.before in
-    let n2 = k.before.before in
+slice-aggregate-total-up c = let k = c.before in
+    let n2 = k.before in
     sym (length-take-le _ _ (room n2.before))
 
 total-up-requires : tie.Need-total_up-requires
 total-up-requires c κs = let a2 = c.before.before.before in
     let n3 = a2.before.before in
-    let k = n3.before.before in
-    let m = k.before.before.before in
+    let k = n3.before in
+    let m = k.before.before in
     let e = m.before.before.before in
     let s = start e.before.before in
     let t = counted-all _ _ _ _ _ _ m.count_all.ensures _ k.in-All.is in
-    (s.pre, (windows-inside (sq s) (ss s) (es s) (rooms s) e.before.if-n-gt256.false e.if-to-n.false (within k), (filled-front (count_at (ss s) (es s)) m.count_all.new.1.1.1.0 _ (length (ss s)) e.before.if-n-gt256.false t.each-is, t.added)))
+    (s.requires, (windows-inside (sq s) (ss s) (es s) (rooms s) e.if-n-gt256.false e.if-to-n.false (within k), (filled-front (count_at (ss s) (es s)) m.count_all.new.1.1.1.0 _ (length (ss s)) e.if-n-gt256.false t.each-is, t.added)))
 
 returns-3 : tie.Need-returns-in-Beyond
-returns-3 c = let n2 = c.before.before in
+returns-3 c = let n2 = c.before in
     let m = n2.before in
     let e = m.before.before.before in
     let s = start e.before.before in
-    (sound-beyond (sq s) (ss s) (es s) (rooms s) e.before.if-n-gt256.false e.if-to-n.false (rw m.before.before.end_Before.ensures at (counted-beyond _ _ _ _ _ _ m.count_all.ensures c.in-Beyond.is)), (refl, (refl, (refl, (refl, refl)))))
+    (sound-beyond (sq s) (ss s) (es s) (rooms s) e.if-n-gt256.false e.if-to-n.false (rw m.end_before.ensures at (counted-beyond _ _ _ _ _ _ m.count_all.ensures c.in-Beyond.is)), (refl, (refl, (refl, (refl, refl)))))
 
 same_length : tie.Need-shape_of-counts
 same_length c = search rules
@@ -123,11 +123,11 @@ returns-4 c = let g = c.before.before.before in
     let u = k3.before.before in
     let a3 = u.before.before.before in
     let n3 = a3.before.before.before in
-    let k = n3.before.before in
-    let m = k.before.before.before in
+    let k = n3.before in
+    let m = k.before.before in
     let e = m.before.before.before in
     let s = start e.before.before in
-    (sound-on (sq s) (ss s) (es s) (rooms s) e.before.if-n-gt256.false e.if-to-n.false (within k) _ u.total_up.ensures.0, u.total_up.ensures.1)
+    (sound-on (sq s) (ss s) (es s) (rooms s) e.if-n-gt256.false e.if-to-n.false (within k) _ u.total_up.ensures.0, u.total_up.ensures.1)
 
 pub totals_sound_spec : {M : Type 1} → statement M
 totals_sound_spec = tie.close (tie.spec returns returns-2 end-before-requires slice-aggregate-count-all count-all-requires enum_told enum-known-count array-share-prefix-numbers slice-aggregate-total-up total-up-requires returns-3 same_length same-length-2 same-length-3 same-length-4 same-length-5 returns-4)

@@ -27,7 +27,7 @@ returns : tie.Need-returns-then-is_bare
 returns c =
     let at_test = c.before in
     let s = start at_test.before in
-    let none = at_test.before.is_bare.ensures at_test.if-is_bare.true in
+    let none = at_test.is_bare.ensures at_test.if-is_bare.true in
     c.ask_bare.ensures ∙ bare-same (call s) s.args.filter none.0 none.1
 
 variables-of-requires : tie.Need-variables_of-lower-requires
@@ -46,7 +46,7 @@ returns-2 : tie.Need-returns
 returns-2 c =
     let at-inputs = c.before in
     let at-upper = at-inputs.before in
-    rw (at-upper.before.variables_of-lower.ensures, at-upper.variables_of-upper.ensures, at-inputs.inputs_of-inputs.ensures) at c.ask.ensures
+    rw (at-upper.variables_of-lower.ensures, at-upper.variables_of-upper.ensures, at-inputs.inputs_of-inputs.ensures) at c.ask.ensures
 
 pub asked_of_spec : {M : Type 1} → statement M
 asked_of_spec = tie.close (tie.spec is-bare-requires ask-bare-requires returns variables-of-requires variables-of-requires-2 inputs-of-requires ask-requires returns-2)

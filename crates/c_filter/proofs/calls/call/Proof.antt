@@ -49,7 +49,7 @@ returns c =
     let at-filter = at-many.before in
     let at_test = at-filter.before in
     let at-start = start at_test.before in
-    called at-start.args.filter _ _ _ (sym at_test.before.is_call.ensures ∙ at_test.if-is_call.true) at-filter.filter_of-given.ensures
+    called at-start.args.filter _ _ _ (sym at_test.is_call.ensures ∙ at_test.if-is_call.true) at-filter.filter_of-given.ensures
     (at-lead.lead_on-sifted.ensures ∙ call-is (source_of _) (call at-start) at-filter.filter_of-given.result _ _ at-many.too_many-many.ensures at-asked.asked_of-asked.ensures)
     c.flat_sifted.ensures
 
@@ -57,7 +57,7 @@ returns-2 : tie.Need-returns-else-is_call
 returns-2 c =
     let at_test = c.before in
     let at-start = start at_test.before in
-    not-called at-start.args.filter _ _ _ (sym at_test.before.is_call.ensures ∙ at_test.if-is_call.false) c.bad_form-answer.ensures
+    not-called at-start.args.filter _ _ _ (sym at_test.is_call.ensures ∙ at_test.if-is_call.false) c.bad_form-answer.ensures
 
 pub call_spec : {M : Type 1} → statement M
 call_spec = tie.close (tie.spec is-call-requires filter-of-requires too-many-requires asked-of-requires lead-on-requires flat-sifted-requires bad-form-requires returns returns-2)

@@ -7,11 +7,7 @@ use Rattle.c_filter.proofs.calls.loftsplice_filter_new.Goals as goal
 pub returns-then-is_fit : goal.returns-then-is_fit
 unfolding ask_fit
 returns-then-is_fit c =
-    let at-scan = c.before.before.before in
-    let at-upper = at-scan.before in
-    let at-lower = at-upper.before in
-    let at_test = at-lower.before in
-    rw (sym at_test.is_fit.ensures ∙ at_test.if-is_fit.true, sym at-lower.bounds_of-lower.ensures, sym at-upper.bounds_of-upper.ensures, sym at-scan.scan_of.ensures, sym c.Mode-of.ensures)
+    rw (sym c.is_fit.ensures ∙ c.if-is_fit.true, sym c.bounds_of-lower.ensures, sym c.bounds_of-upper.ensures, sym c.scan_of.ensures, sym c.mode_of.ensures)
     (c.flat_new_filter.ensures ∙ ap flat_new_filter c.new.ensures)
 
 pub returns-else-is_fit : goal.returns-else-is_fit

@@ -7,8 +7,7 @@ use Rattle.c_filter.proofs.calls.loftsplice_filter_reset.Goals as goal
 pub returns-then-is_filter : goal.returns-then-is_filter
 unfolding flat_reset
 returns-then-is_filter c =
-    let at_test = c.before.before.before in
-    rw (sym at_test.is_filter.ensures ∙ at_test.if-is_filter.true, c.flat_filter.ensures, c.reset.ensures, c.filter_of.ensures)
+    rw (sym c.is_filter.ensures ∙ c.if-is_filter.true, c.flat_filter.ensures, c.reset.ensures, c.filter_of.ensures)
 
 pub returns-else-is_filter : goal.returns-else-is_filter
 unfolding flat_reset

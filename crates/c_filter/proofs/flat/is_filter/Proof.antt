@@ -16,24 +16,24 @@ start c =
 
 -- the mode is one, and the scan has the form
 moded : (c : tie.Else-not-is_mode) → is_mode (start c.before).args.filter.mode ≡ true
-moded c = sym c.before.is_mode.ensures ∙ not-false c.before.is_mode.result c.if-not-is_mode.false-raw
+moded c = sym c.is_mode.ensures ∙ not-false c.is_mode.result c.if-not-is_mode.false-raw
 
 formed : (c : tie.Else-not-is_scan) → good_scan (start c.before.before.before).args.filter.scan ≡ true
-formed c = sym c.before.is_scan.ensures ∙ not-false c.before.is_scan.result c.if-not-is_scan.false-raw
+formed c = sym c.is_scan.ensures ∙ not-false c.is_scan.result c.if-not-is_scan.false-raw
 
 is-mode-requires : tie.Need-is_mode-requires
 is-mode-requires c κs = search rules
 
 returns : tie.Need-returns-then-not-is_mode
 unfolding good_filter
-returns c = rw (sym c.before.is_mode.ensures ∙ not-true c.before.is_mode.result c.if-not-is_mode.true-raw)
+returns c = rw (sym c.is_mode.ensures ∙ not-true c.is_mode.result c.if-not-is_mode.true-raw)
 
 is-scan-requires : tie.Need-is_scan-requires
 is-scan-requires c κs = search rules
 
 returns-2 : tie.Need-returns-then-not-is_scan
 unfolding good_filter
-returns-2 c = rw (moded c.before.before, sym c.before.is_scan.ensures ∙ not-true c.before.is_scan.result c.if-not-is_scan.true-raw)
+returns-2 c = rw (moded c.before.before, sym c.is_scan.ensures ∙ not-true c.is_scan.result c.if-not-is_scan.true-raw)
 
 returns-3 : tie.Need-returns-then-filter-gt2
 unfolding good_filter
@@ -62,7 +62,7 @@ returns-6 c =
     let at-lower = c.before.before.before in
     let at-state = at-lower.before.before in
     let at-scan = at-state.before.before in
-    rw (moded at-scan.before.before, formed at-scan, le-leb _ _ at-state.if-filter-gt2.false, le-leb _ _ at-lower.if-lower-gt2.false, le-leb _ _ c.before.if-upper-gt2.false)
+    rw (moded at-scan.before.before, formed at-scan, le-leb _ _ at-state.if-filter-gt2.false, le-leb _ _ at-lower.if-lower-gt2.false, le-leb _ _ c.if-upper-gt2.false)
 
 pub is_filter_spec : {M : Type 1} → statement M
 is_filter_spec = tie.close (tie.spec is-mode-requires returns is-scan-requires returns-2 returns-3 returns-4 returns-5 returns-6)

@@ -16,23 +16,18 @@ loop-i-init c = (search rules, refl)
 
 pub returns-then-number-low : goal.returns-then-number-low
 returns-then-number-low c =
-    let at_test = c.before.before in
-    let at-loop = at_test.before in
-    sym (every-not _ at-loop.args.numbers.now at-loop.loop-i.i at_test.loop-i-test.true (rw (lt-leb _ _ c.if-number-low.true))) ∙ at-loop.loop-i.invariant.1
+    sym (every-not _ c.args.numbers.now c.loop-i.i c.loop-i-test.true (rw (lt-leb _ _ c.if-number-low.true))) ∙ c.loop-i.invariant.1
 
 pub returns-then-high-number : goal.returns-then-high-number
 returns-then-high-number c =
-    let at_test = c.before.before.before in
-    let at-loop = at_test.before in
-    sym (every-not _ at-loop.args.numbers.now at-loop.loop-i.i at_test.loop-i-test.true (rw (le-leb _ _ c.if-number-low.false, lt-leb _ _ c.if-high-number.true))) ∙ at-loop.loop-i.invariant.1
+    sym (every-not _ c.args.numbers.now c.loop-i.i c.loop-i-test.true (rw (le-leb _ _ c.if-number-low.false, lt-leb _ _ c.if-high-number.true))) ∙ c.loop-i.invariant.1
 
 pub loop-i-preserved : goal.loop-i-preserved
 loop-i-preserved c =
-    let at_test = c.before.before.before in
-    let at-loop = at_test.before in (
+    (
       search rules,
       rw add-one
-          (sym (every_here _ at-loop.args.numbers.now at-loop.loop-i.i at_test.loop-i-test.true (rw (le-leb _ _ c.if-number-low.false, le-leb _ _ c.if-high-number.false))) ∙ at-loop.loop-i.invariant.1),
+          (sym (every_here _ c.args.numbers.now c.loop-i.i c.loop-i-test.true (rw (le-leb _ _ c.if-number-low.false, le-leb _ _ c.if-high-number.false))) ∙ c.loop-i.invariant.1),
     )
 
 pub returns : goal.returns

@@ -9,11 +9,9 @@ returns-then-not-is_mode c = rw (sym c.is_mode.ensures ∙ not-true c.is_mode.re
 
 pub returns-then-is_paired : goal.returns-then-is_paired
 returns-then-is_paired c =
-    let at-mode = c.before.before.before in
-    rw (sym at-mode.is_mode.ensures ∙ not-false at-mode.is_mode.result at-mode.if-not-is_mode.false-raw, sym c.is_paired.ensures ∙ c.if-is_paired.true)
+    rw (sym c.is_mode.ensures ∙ not-false c.is_mode.result c.if-not-is_mode.false-raw, sym c.is_paired.ensures ∙ c.if-is_paired.true)
     c.is_paired-then-is_paired.ensures
 
 pub returns-else-is_paired : goal.returns-else-is_paired
 returns-else-is_paired c =
-    let at-mode = c.before.before in
-    rw (sym at-mode.is_mode.ensures ∙ not-false at-mode.is_mode.result at-mode.if-not-is_mode.false-raw, sym c.is_paired.ensures ∙ c.if-is_paired.false)
+    rw (sym c.is_mode.ensures ∙ not-false c.is_mode.result c.if-not-is_mode.false-raw, sym c.is_paired.ensures ∙ c.if-is_paired.false)

@@ -5,4 +5,4 @@ use borrow.Author.Rules.{rules}
 use Rattle.c_forms.proofs.scans.scan_of.Goals as goal
 
 pub returns : goal.returns
-returns c = rw (c.Carried-of.ensures, back w64 _ c.struct_told-1.given.1.1.1.0.1, c.state_of-state.ensures)
+returns c = rw (c.carried_of-value.ensures, back w64 _ c.struct_told-1.given.1.1.1.0.1, c.state_of-state.ensures)

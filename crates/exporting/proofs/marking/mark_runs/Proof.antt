@@ -41,8 +41,8 @@ good s = sound-parts (col s) s.requires.0
 
 -- in a turn
 module _ (c : tie.In-loop-r invariant-loop decreases-loop) where
-  rise : end_before (start c.before).args.ends.now c.before.loop-r.r < get_or (start c.before).args.ends.now c.before.loop-r.r 0
-  rise = (good (start c.before)).up c.before.loop-r.r c.loop-r-test.true
+  rise : end_before (start c.before).args.ends.now c.loop-r.r < get_or (start c.before).args.ends.now c.loop-r.r 0
+  rise = (good (start c.before)).up c.loop-r.r c.loop-r-test.true
 
 -- the run's first element
 module _ (c : tie.After-bias invariant-loop decreases-loop) where
@@ -56,11 +56,11 @@ module _ (c : tie.After-bias invariant-loop decreases-loop) where
   k = col (start at)
 
   of-start : c.bias.result ≡ key half64 (start_of k at.loop-r.r)
-  of-start = c.bias.ensures ∙ ap (key half64) (back w64 (start_of k at.loop-r.r) c.before.bias-arg-1.given)
+  of-start = c.bias.ensures ∙ ap (key half64) (back w64 (start_of k at.loop-r.r) c.bias-arg-1.given)
 
   above : half64 ≤ key half64 (start_of k at.loop-r.r)
   above = fit-key (start_of k at.loop-r.r) (step_of k at.loop-r.r) (more_of k at.loop-r.r) (floor_of k at.loop-r.r) (start at).args.count
-      (fit_at k (good (start at)) (start at).args.count (start at).pre.1.0 at.loop-r.r turn.loop-r-test.true)
+      (fit_at k (good (start at)) (start at).args.count (start at).requires.1.0 at.loop-r.r turn.loop-r-test.true)
 
 -- its step
 module _ (c : tie.After-size16-step invariant-loop decreases-loop) where
@@ -68,10 +68,10 @@ module _ (c : tie.After-size16-step invariant-loop decreases-loop) where
   b = c.before.before
 
   of-step : c.size16-step.result ≡ nat_abs (step_of (k b) (at b).loop-r.r)
-  of-step = c.size16-step.ensures ∙ ap nat_abs (back w16 (step_of (k b) (at b).loop-r.r) c.before.size16-arg-1.given)
+  of-step = c.size16-step.ensures ∙ ap nat_abs (back w16 (step_of (k b) (at b).loop-r.r) c.size16-arg-1.given)
 
   small : c.size16-step.result ≤ 32768
-  small = omega (arith, of-step, nat_abs-le (step_of (k b) (at b).loop-r.r) {H = 32768} c.before.size16-arg-1.given)
+  small = omega (arith, of-step, nat_abs-le (step_of (k b) (at b).loop-r.r) {H = 32768} c.size16-arg-1.given)
 
   first-is : b.bias.result - 9223372036854775808 ≡ first_at (start_of (k b) (at b).loop-r.r)
   first-is = ap (λ x. x - 9223372036854775808) (of-start b)
@@ -117,7 +117,7 @@ set-run-requires c κs =
     let z = c.before in
     let a = at (b z) in
     let s = start a in
-    run_room (k (b z)) (good s) s.args.count s.pre.1.0 a.loop-r.bytes a.loop-r.r _ _ _ (turn (b z)).loop-r-test.true (first-is z) (of-step z) (long-is z) s.pre.1.1.0
+    run_room (k (b z)) (good s) s.args.count s.requires.1.0 a.loop-r.bytes a.loop-r.r _ _ _ (turn (b z)).loop-r-test.true (first-is z) (of-step z) (long-is z) s.requires.1.1.0
     (omega (arith, a.loop-r.invariant.2.long)) (small z)
 
 add_r : tie.Need-overflow_add-r invariant-loop decreases-loop
@@ -135,11 +135,11 @@ loop-again c =
       omega arith,
       before-next s.args.ends.now a.loop-r.r,
       rw (← before-next s.args.ends.now a.loop-r.r)
-          (mark-next (k (b z)) (good s) s.args.count s.pre.1.0 a.loop-r.r _ _ _ (turn (b z)).loop-r-test.true (first-is z) (of-step z) (long-is z) a.loop-r.invariant.2 u.set_run.ensures),
+          (mark-next (k (b z)) (good s) s.args.count s.requires.1.0 a.loop-r.r _ _ _ (turn (b z)).loop-r-test.true (first-is z) (of-step z) (long-is z) a.loop-r.invariant.2 u.set_run.ensures),
     )
 
 same_length : tie.Need-shape_of-bytes invariant-loop decreases-loop
-same_length c = c.before.loop-r.invariant.2.long
+same_length c = c.loop-r.invariant.2.long
 
 returns : tie.Need-returns invariant-loop decreases-loop
 returns c =

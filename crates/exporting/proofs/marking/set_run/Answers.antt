@@ -14,6 +14,4 @@ set_span-requires c = (omega arith, one-run c.args.start c.args.step c.args.n (8
 
 pub returns-then-step-eq1 : goal.returns-then-step-eq1
 returns-then-step-eq1 c =
-    let up3 = c.before.before.before in
-    let s = up3.before.before.before in
-    mark-run s.args.start s.args.step s.args.n (omega arith) c.set_span.ensures
+    mark-run c.args.start c.args.step c.args.n (omega arith) c.set_span.ensures

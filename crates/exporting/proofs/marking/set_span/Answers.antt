@@ -29,37 +29,16 @@ overflow_sub-below c = omega (arith, one_shifted c.args.e, pow_pos (c.args.e % 8
 
 pub returns-then-first-last : goal.returns-then-first-last
 returns-then-first-last c =
-    let up3 = c.before.before.before in
-    let up6 = up3.before.before.before in
-    let s = up6.before in
-    span-byte s.args.a s.args.e (omega arith) c.or_at.ensures
+    span-byte c.args.a c.args.e (omega arith) c.or_at.ensures
 
 pub returns-then-below-eq0 : goal.returns-then-below-eq0
 returns-then-below-eq0 c =
-    let up3 = c.before.before.before in
-    let up6 = up3.before.before.before in
-    let up7 = up6.before in
-    let up10 = up7.before.before.before in
-    let s = up10.before.before in
-    span-short s.args.a s.args.e (omega arith) up7.or_at-2.ensures up3.fill_whole.ensures c.if-below-eq0.true
+    span-short c.args.a c.args.e (omega arith) c.or_at-2.ensures c.fill_whole.ensures c.if-below-eq0.true
 
 pub or_at-requires-3 : goal.or_at-requires-3
 or_at-requires-3 c =
-    let up3 = c.before.before.before in
-    let up4 = up3.before in
-    let up7 = up4.before.before.before in
-    let up8 = up7.before in
-    let up11 = up8.before.before.before in
-    let s = up11.before.before in
-    omega (arith, span-room s.args.e (length s.args.bytes.now) c.if-below-eq0.false (omega arith), up4.fill_whole.ensures.long, up8.or_at-2.ensures.long)
+    omega (arith, span-room c.args.e (length c.args.bytes.now) c.if-below-eq0.false (omega arith), c.fill_whole.ensures.long, c.or_at-2.ensures.long)
 
 pub returns : goal.returns
 returns c =
-    let up3 = c.before.before.before in
-    let up6 = up3.before.before.before in
-    let up7 = up6.before in
-    let up10 = up7.before.before.before in
-    let up11 = up10.before in
-    let up14 = up11.before.before.before in
-    let s = up14.before.before in
-    span-long s.args.a s.args.e (omega arith) up11.or_at-2.ensures up7.fill_whole.ensures c.or_at-3.ensures
+    span-long c.args.a c.args.e (omega arith) c.or_at-2.ensures c.fill_whole.ensures c.or_at-3.ensures

@@ -16,27 +16,19 @@ loop-k-init c = (omega arith, omega arith, mark-none c.args.bytes.now (in_steps 
 
 pub set_bit-requires : goal.set_bit-requires
 set_bit-requires c =
-    let up3 = c.before.before.before in
-    let s = up3.before in
-    omega (arith, last-at s.args.start s.args.step c.loop-k.k s.args.n c.loop-k-test.true, c.loop-k.invariant.2.long)
+    omega (arith, last-at c.args.start c.args.step c.loop-k.k c.args.n c.loop-k-test.true, c.loop-k.invariant.2.long)
 
 pub overflow_add-at : goal.overflow_add-at
 overflow_add-at c =
-    let up3 = c.before.before.before in
-    let up4 = up3.before in
-    let up5 = up4.before in
-    let s = up5.before.before in
-    record { fits = omega (arith, last-at s.args.start s.args.step up5.loop-k.k s.args.n up4.loop-k-test.true) }
+    record { fits = omega (arith, last-at c.args.start c.args.step c.loop-k.k c.args.n c.loop-k-test.true) }
 
 pub loop-k-preserved : goal.loop-k-preserved
 loop-k-preserved c =
-    let up3 = c.before.before.before in
-    let up5 = up3.before.before in
-    let s = up5.before.before in (
+    (
       omega arith,
-      ap (λ (x : ℕ). x + s.args.step) up5.loop-k.invariant.1 ∙ next-at s.args.start s.args.step up5.loop-k.k,
-      mark-step s.args.start s.args.step up5.loop-k.k up5.loop-k.invariant.2
-          (mark-as (λ i. eqb i (s.args.start + s.args.step * up5.loop-k.k)) c.set_bit.ensures (λ i. ap (eqb i) up5.loop-k.invariant.1)),
+      ap (λ (x : ℕ). x + c.args.step) c.loop-k.invariant.1 ∙ next-at c.args.start c.args.step c.loop-k.k,
+      mark-step c.args.start c.args.step c.loop-k.k c.loop-k.invariant.2
+          (mark-as (λ i. eqb i (c.args.start + c.args.step * c.loop-k.k)) c.set_bit.ensures (λ i. ap (eqb i) c.loop-k.invariant.1)),
     )
 
 pub returns : goal.returns

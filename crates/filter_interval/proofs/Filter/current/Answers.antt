@@ -7,18 +7,12 @@ use Rattle.filter_interval.proofs.Filter.current.Goals as goal
 
 pub returns-in-Before : goal.returns-in-Before
 returns-in-Before c =
-    let at-current = c.before.before.before in
-    let s = at-current.before.before in
-    c.none_or_refused.ensures ∙ ap none_or_refused at-current.current-answer.ensures ∙ current-none s.args.self _ c.in-Before.is refl
+    c.none_or_refused.ensures ∙ ap none_or_refused c.current-answer.ensures ∙ current-none c.args.self _ c.in-Before.is refl
 
 pub returns-in-Within : goal.returns-in-Within
 returns-in-Within c =
-    let at-scan = c.before.before.before in
-    let s = at-scan.before in
-    c.current-answer.ensures ∙ current-within s.args.self _ c.in-Within.is _ refl
+    c.current-answer.ensures ∙ current-within c.args.self _ c.in-Within.is _ refl
 
 pub returns-in-After : goal.returns-in-After
 returns-in-After c =
-    let at-current = c.before.before.before in
-    let s = at-current.before.before in
-    c.none_or_refused-in-After.ensures ∙ ap none_or_refused at-current.current-answer.ensures ∙ current-none s.args.self _ c.in-After.is refl
+    c.none_or_refused-in-After.ensures ∙ ap none_or_refused c.current-answer.ensures ∙ current-none c.args.self _ c.in-After.is refl

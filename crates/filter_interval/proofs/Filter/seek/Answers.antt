@@ -9,6 +9,5 @@ use Rattle.filter_interval.proofs.Filter.seek.Goals as goal
 
 pub returns : goal.returns
 returns c =
-    let s = c.before.before in
-    let e : to_z w64 (of_z w64 s.args.target) ≡ s.args.target = search rules in
-    seek-call (source_of _) s.args.lower s.args.upper s.args.inputs s.args.self _ _ e _ c.sift.ensures
+    let e : to_z w64 (of_z w64 c.args.target) ≡ c.args.target = search rules in
+    seek-call (source_of _) c.args.lower c.args.upper c.args.inputs c.args.self _ _ e _ c.sift.ensures

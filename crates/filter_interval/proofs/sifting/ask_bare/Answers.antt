@@ -8,9 +8,7 @@ use Rattle.filter_interval.proofs.sifting.ask_bare.Goals as goal
 
 pub returns-in-Before : goal.returns-in-Before
 returns-in-Before c =
-    let at_told = c.before.before in
-    let s = at_told.before.before in
-    rw at_told.in-Before.is (bare-asks (bare s.args.step) s.args.filter refl refl _ (c.lead_to.ensures ∙ ap lead_to c.raise-raised.ensures))
+    rw c.in-Before.is (bare-asks (bare c.args.step) c.args.filter refl refl _ (c.lead_to.ensures ∙ ap lead_to c.raise-raised.ensures))
 
 pub returns-in-Within : goal.returns-in-Within
 returns-in-Within c = rw c.in-Within.is

@@ -6,6 +6,4 @@ use Rattle.filter_interval.proofs.sifting.lead_on.Goals as goal
 
 pub returns : goal.returns
 returns c =
-    let shr_slice_at = c.before.before.before in
-    let s = shr_slice_at.before in
-    c.settle.ensures ∙ ap (settled s.args.filter s.args.to.upper) c.led-moved.ensures
+    c.settle.ensures ∙ ap (settled c.args.filter c.args.to.upper) c.led-moved.ensures

@@ -8,17 +8,13 @@ use Rattle.filter_interval.proofs.sifting.lead_to.Goals as goal
 
 pub returns-then-is_exclusive : goal.returns-then-is_exclusive
 returns-then-is_exclusive c =
-    let at-known-told = c.before.before.before in
-    let at_low = at-known-told.before in
-    let b = at_low.in-To.bound in
-    lead-past _ b _ at_low.in-To.is (back w64 b.value c.struct_told-1.given.1.0.1) (sym c.is_exclusive.ensures ∙ c.if-is_exclusive.true)
+    let b = c.in-To.bound in
+    lead-past _ b _ c.in-To.is (back w64 b.value c.struct_told-1.given.1.0.1) (sym c.is_exclusive.ensures ∙ c.if-is_exclusive.true)
 
 pub returns-in-Free : goal.returns-in-Free
 returns-in-Free c = lead-free _ c.in-Free.is
 
 pub returns-else-is_exclusive : goal.returns-else-is_exclusive
 returns-else-is_exclusive c =
-    let at-known-told = c.before.before.before in
-    let at_low = at-known-told.before in
-    let b = at_low.in-To.bound in
-    lead-seek _ b _ at_low.in-To.is (back w64 b.value c.struct_told-1.given.1.0.1) (sym c.is_exclusive.ensures ∙ c.if-is_exclusive.false)
+    let b = c.in-To.bound in
+    lead-seek _ b _ c.in-To.is (back w64 b.value c.struct_told-1.given.1.0.1) (sym c.is_exclusive.ensures ∙ c.if-is_exclusive.false)

@@ -4,15 +4,12 @@ use Rattle.filter_interval.proofs.sifting.too_many.Goals as goal
 
 pub returns-then-lows-gt16 : goal.returns-then-lows-gt16
 returns-then-lows-gt16 c =
-    let s = c.before in
-    many-lower s.args.lows s.args.ups s.args.ins c.if-lows-gt16.true
+    many-lower c.args.lows c.args.ups c.args.ins c.if-lows-gt16.true
 
 pub returns-then-ups-gt16 : goal.returns-then-ups-gt16
 returns-then-ups-gt16 c =
-    let s = c.before.before in
-    many-upper s.args.lows s.args.ups s.args.ins c.if-lows-gt16.false c.if-ups-gt16.true
+    many-upper c.args.lows c.args.ups c.args.ins c.if-lows-gt16.false c.if-ups-gt16.true
 
 pub returns : goal.returns
 returns c =
-    let s = c.before.before in
-    many-inputs s.args.lows s.args.ups s.args.ins c.if-lows-gt16.false c.if-ups-gt16.false
+    many-inputs c.args.lows c.args.ups c.args.ins c.if-lows-gt16.false c.if-ups-gt16.false

@@ -30,11 +30,11 @@ enum-known-answer c = search rules
 
 returns : tie.Need-returns-in-Refused
 returns c =
-    let at-answer = c.before in
-    let at_left = at-answer.before.before in
+    let at-answer = c in
+    let at_left = at-answer.before in
     let at_first = at_left.before.before in
     let s = at_first.before.before in
-    seek-refused (col s) (handed s) s.args.filter s.args.targets.now s.args.out.now _ (back w64 at_first.first_of-target.result at_first.first_of-target.type_inv ∙ at_first.first_of-target.ensures) at_left.before.seek-first.result at_left.before.seek-first.ensures
+    seek-refused (col s) (handed s) s.args.filter s.args.targets.now s.args.out.now _ (back w64 at_first.first_of-target.result at_first.first_of-target.type_inv ∙ at_first.first_of-target.ensures) at_left.seek-first.result at_left.seek-first.ensures
     at-answer.in-Refused.why at-answer.in-Refused.is
 
 returns-2 : tie.Need-returns-then-targets-eq0
@@ -43,8 +43,8 @@ returns-2 c =
     let at_left = at-keys.before in
     let at_first = at_left.before.before in
     let s = at_first.before.before in
-    seek-nothing (col s) (handed s) s.args.filter s.args.targets.now s.args.out.now _ (back w64 at_first.first_of-target.result at_first.first_of-target.type_inv ∙ at_first.first_of-target.ensures) at_left.before.seek-first.result at_left.before.seek-first.ensures
-    at-keys.in-Refused.keys2 c.if-targets-eq0.true
+    seek-nothing (col s) (handed s) s.args.filter s.args.targets.now s.args.out.now _ (back w64 at_first.first_of-target.result at_first.first_of-target.type_inv ∙ at_first.first_of-target.ensures) at_left.seek-first.result at_left.seek-first.ensures
+    at-keys.in_default.in_default-own.keys2 c.if-targets-eq0.true
 
 enum-known-answer-2 : tie.Need-enum_known-answer-in-Value-answer-2
 enum-known-answer-2 c = search rules
@@ -56,22 +56,22 @@ returns-3 c =
     let at_left = at-keys.before in
     let at_first = at_left.before.before in
     let s = at_first.before.before in
-    seek-none (col s) (handed s) s.args.filter s.args.targets.now s.args.out.now _ (back w64 at_first.first_of-target.result at_first.first_of-target.type_inv ∙ at_first.first_of-target.ensures) at_left.before.seek-first.result at_left.before.seek-first.ensures
-    at-keys.in-Refused.keys2 c.in-Value.keys2 (omega (arith, at-else.if-targets-eq0.false))
+    seek-none (col s) (handed s) s.args.filter s.args.targets.now s.args.out.now _ (back w64 at_first.first_of-target.result at_first.first_of-target.type_inv ∙ at_first.first_of-target.ensures) at_left.seek-first.result at_left.seek-first.ensures
+    at-keys.in_default.in_default-own.keys2 c.in_default-answer.in_default-answer-own.keys2 (omega (arith, at-else.if-targets-eq0.false))
 
 returns-4 : tie.Need-returns-then-out-eq0
 returns-4 c =
     let at_told = c.before in
-    let at-answer = at_told.before in
-    let at-else = at-answer.before.before in
+    let at-answer = at_told in
+    let at-else = at-answer.before in
     let at_left = at-else.before.before in
     let at_first = at_left.before.before in
     let s = at_first.before.before in
-    seek-nowhere (col s) (handed s) s.args.filter s.args.targets.now s.args.out.now _ (back w64 at_first.first_of-target.result at_first.first_of-target.type_inv ∙ at_first.first_of-target.ensures) at_left.before.seek-first.result at_left.before.seek-first.ensures
+    seek-nowhere (col s) (handed s) s.args.filter s.args.targets.now s.args.out.now _ (back w64 at_first.first_of-target.result at_first.first_of-target.type_inv ∙ at_first.first_of-target.ensures) at_left.seek-first.result at_left.seek-first.ensures
     at-answer.in-Value.value at-answer.in-Value.is (omega (arith, at-else.if-targets-eq0.false)) c.if-out-eq0.true
 
 sub-seeks-on : tie.Need-slice_bounds-seeks_on-count
-sub-seeks-on c = let at-answer = c.before.before in let at-else = at-answer.before.before in omega (arith, at-else.if-targets-eq0.false)
+sub-seeks-on c = let at-answer = c.before in let at-else = at-answer.before in omega (arith, at-else.if-targets-eq0.false)
 
 part-seeks-on-start : tie.Need-slice_bounds-seeks_on-start
 part-seeks-on-start c = search rules
@@ -80,7 +80,7 @@ part-seeks-on-end : tie.Need-slice_bounds-seeks_on-end
 part-seeks-on-end c = search rules
 
 sub-seeks-on-2 : tie.Need-slice_bounds-seeks_on-count-2
-sub-seeks-on-2 c = omega (arith, c.before.if-out-eq0.false)
+sub-seeks-on-2 c = omega (arith, c.if-out-eq0.false)
 
 part-seeks-on-start-2 : tie.Need-slice_bounds-seeks_on-start-2
 part-seeks-on-start-2 c = search rules
@@ -91,12 +91,12 @@ part-seeks-on-end-2 c = search rules
 seeks-on-requires : tie.Need-seeks_on-ran-requires
 seeks-on-requires c κs =
     let at-else2 = c.before.before in
-    let at-answer = at-else2.before.before in
-    let at-else = at-answer.before.before in
+    let at-answer = at-else2.before in
+    let at-else = at-answer.before in
     let at_left = at-else.before.before in
     let at_first = at_left.before.before in
     let s = at_first.before.before in
-    seek-stands (col s) (handed s) s.args.filter s.args.targets.now s.args.out.now _ (back w64 at_first.first_of-target.result at_first.first_of-target.type_inv ∙ at_first.first_of-target.ensures) at_left.before.seek-first.result at_left.before.seek-first.ensures
+    seek-stands (col s) (handed s) s.args.filter s.args.targets.now s.args.out.now _ (back w64 at_first.first_of-target.result at_first.first_of-target.type_inv ∙ at_first.first_of-target.ensures) at_left.seek-first.result at_left.seek-first.ensures
     at-answer.in-Value.value at-answer.in-Value.is
 
 enum-known-counted : tie.Need-enum_known-counted
@@ -110,21 +110,21 @@ slice-set-from-value c = search rules
 
 add-t38 : tie.Need-overflow_add-result
 add-t38 c =
-    let at-counted = c.before in
-    let at_last = at-counted.before.before in
+    let at-counted = c in
+    let at_last = at-counted.before in
     let at_on = at_last.before.before in
     let at-args = at_on.before.before in
     let at-else2 = at-args.before in
     let at_told = at-else2.before in
-    let at-answer = at_told.before in
-    let at-else = at-answer.before.before in
+    let at-answer = at_told in
+    let at-else = at-answer.before in
     let at_left = at-else.before.before in
     let at_first = at_left.before.before in
     let s = at_first.before.before in
     omega (
       arith,
       s.well_formed,
-      seek-few (col s) (handed s) s.args.filter s.args.targets.now s.args.out.now _ (back w64 at_first.first_of-target.result at_first.first_of-target.type_inv ∙ at_first.first_of-target.ensures) at_left.before.seek-first.result at_left.before.seek-first.ensures
+      seek-few (col s) (handed s) s.args.filter s.args.targets.now s.args.out.now _ (back w64 at_first.first_of-target.result at_first.first_of-target.type_inv ∙ at_first.first_of-target.ensures) at_left.seek-first.result at_left.seek-first.ensures
           at-answer.in-Value.value at-answer.in-Value.is (omega (arith, at-else.if-targets-eq0.false)) (omega (arith, at-else2.if-out-eq0.false)) _ _ refl refl
           (filter_tally_of at_on.seeks_on-ran.result) at_on.seeks_on-ran.ensures.0 _ at_on.seeks_on-ran.ensures.1
           at-counted.in-Values.values (ap says_counted at-counted.in-Values.is),
@@ -135,18 +135,18 @@ same_length c = search rules
 
 returns-5 : tie.Need-returns-in-Refused-counted
 returns-5 c =
-    let at-counted = c.before in
-    let at_last = at-counted.before.before in
+    let at-counted = c in
+    let at_last = at-counted.before in
     let at_on = at_last.before.before in
     let at-args = at_on.before.before in
     let at-else2 = at-args.before in
     let at_told = at-else2.before in
-    let at-answer = at_told.before in
-    let at-else = at-answer.before.before in
+    let at-answer = at_told in
+    let at-else = at-answer.before in
     let at_left = at-else.before.before in
     let at_first = at_left.before.before in
     let s = at_first.before.before in
-    seek-over (col s) (handed s) s.args.filter s.args.targets.now s.args.out.now _ (back w64 at_first.first_of-target.result at_first.first_of-target.type_inv ∙ at_first.first_of-target.ensures) at_left.before.seek-first.result at_left.before.seek-first.ensures
+    seek-over (col s) (handed s) s.args.filter s.args.targets.now s.args.out.now _ (back w64 at_first.first_of-target.result at_first.first_of-target.type_inv ∙ at_first.first_of-target.ensures) at_left.seek-first.result at_left.seek-first.ensures
     at-answer.in-Value.value at-answer.in-Value.is (omega (arith, at-else.if-targets-eq0.false)) (omega (arith, at-else2.if-out-eq0.false)) _ _ refl refl
     (filter_tally_of at_on.seeks_on-ran.result) at_on.seeks_on-ran.ensures.0 _ at_on.seeks_on-ran.ensures.1
     (number_of at-counted.in-Refused-counted.why) (ap says_counted at-counted.in-Refused-counted.is)
@@ -156,21 +156,21 @@ same-length-2 c = search rules
 
 returns-6 : tie.Need-returns-in-Values
 returns-6 c =
-    let at-counted = c.before in
-    let at_last = at-counted.before.before in
+    let at-counted = c in
+    let at_last = at-counted.before in
     let at_on = at_last.before.before in
     let at-args = at_on.before.before in
     let at-else2 = at-args.before in
     let at_told = at-else2.before in
-    let at-answer = at_told.before in
-    let at-else = at-answer.before.before in
+    let at-answer = at_told in
+    let at-else = at-answer.before in
     let at_left = at-else.before.before in
     let at_first = at_left.before.before in
     let s = at_first.before.before in
-    seek-all (col s) (handed s) s.args.filter s.args.targets.now s.args.out.now _ (back w64 at_first.first_of-target.result at_first.first_of-target.type_inv ∙ at_first.first_of-target.ensures) at_left.before.seek-first.result at_left.before.seek-first.ensures
+    seek-all (col s) (handed s) s.args.filter s.args.targets.now s.args.out.now _ (back w64 at_first.first_of-target.result at_first.first_of-target.type_inv ∙ at_first.first_of-target.ensures) at_left.seek-first.result at_left.seek-first.ensures
     at-answer.in-Value.value at-answer.in-Value.is (omega (arith, at-else.if-targets-eq0.false)) (omega (arith, at-else2.if-out-eq0.false)) _ _ refl refl
     (filter_tally_of at_on.seeks_on-ran.result) at_on.seeks_on-ran.ensures.0 _ at_on.seeks_on-ran.ensures.1
-    at-counted.in-Values.values (ap says_counted at-counted.in-Values.is) _ (back w64 at-answer.in-Value.value at_told.known_told-in-Value-answer-2-1.given.0.1)
+    at-counted.in-Values.values (ap says_counted at-counted.in-Values.is) _ (back w64 at-answer.in-Value.value at_told.in-Value.known_told-in-Value-answer-2-1-own.given.0.1)
 
 pub seek_run_spec : {M : Type 1} → statement M
 seek_run_spec = tie.close (tie.spec first-of-requires seek-requires enum-known-answer returns returns-2 enum-known-answer-2 returns-3 returns-4 sub-seeks-on part-seeks-on-start part-seeks-on-end sub-seeks-on-2 part-seeks-on-start-2 part-seeks-on-end-2 seeks-on-requires enum-known-counted enum-known-counted-2 slice-set-from-value add-t38 same_length returns-5 same-length-2 returns-6)

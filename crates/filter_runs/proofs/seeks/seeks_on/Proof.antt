@@ -44,8 +44,8 @@ enum-known-counted-2 c = search rules
 
 mul-target : tie.Need-offset_bounds-targets-made
 mul-target c =
-    let at-counted = c.before.before in
-    let at_out = at-counted.before.before.before in
+    let at-counted = c.before in
+    let at_out = at-counted.before.before in
     let at-stop = at_out.before.before.before in
     let at-start = at-stop.before.before in
     let at-scan = at-start.before.before in
@@ -69,8 +69,8 @@ returns c =
     let at-seek = c.before.before in
     let at_Target = at-seek.before in
     let at-then = at_Target.before in
-    let at-counted = at-then.before.before in
-    let at_out = at-counted.before.before.before in
+    let at-counted = at-then.before in
+    let at_out = at-counted.before.before in
     let at-run = at_out.before in
     let at-stop = at-run.before.before in
     let at-pass = at-stop.before in
@@ -96,8 +96,8 @@ same-length-2 c = search rules
 
 returns-2 : tie.Need-returns-in-Refused
 returns-2 c =
-    let at-counted = c.before in
-    let at_out = at-counted.before.before.before in
+    let at-counted = c in
+    let at_out = at-counted.before.before in
     let at-run = at_out.before in
     let at-stop = at-run.before.before in
     let at-pass = at-stop.before in
@@ -117,8 +117,8 @@ same-length-3 c = search rules
 
 returns-3 : tie.Need-returns-else-made-targets
 returns-3 c =
-    let at-counted = c.before.before.before in
-    let at_out = at-counted.before.before.before in
+    let at-counted = c.before.before in
+    let at_out = at-counted.before.before in
     let at-run = at_out.before in
     let at-stop = at-run.before.before in
     let at-pass = at-stop.before in
@@ -129,7 +129,7 @@ returns-3 c =
       ap (λ (g : Filter). record { filter = g; said = Gives n }) c.moved_on-in-Values.ensures
           ∙ seeks-full (col s) s.args.filter s.requires s.args.targets.now s.args.out.now at-limit.limit_of-up.result at-start.stands_at-start.result at-stop.stands_at-stop.result at-pass.pass-over.result s.args.filter.scan.value
           at-limit.limit_of-up.ensures at-start.stands_at-start.ensures at-pass.pass-over.ensures at-stop.stands_at-stop.ensures refl
-          (tally_of at-run.seek_run-ran.result) at-run.seek_run-ran.ensures.0 n (ap says_counted at-counted.in-Values.is) c.before.if-made-targets.false,
+          (tally_of at-run.seek_run-ran.result) at-run.seek_run-ran.ensures.0 n (ap says_counted at-counted.in-Values.is) c.if-made-targets.false,
       seeks-out (col s) s.args.filter s.requires s.args.targets.now s.args.out.now at-limit.limit_of-up.result at-start.stands_at-start.result at-stop.stands_at-stop.result at-pass.pass-over.result s.args.filter.scan.value
           at-limit.limit_of-up.ensures at-start.stands_at-start.ensures at-pass.pass-over.ensures at-stop.stands_at-stop.ensures refl
           (tally_of at-run.seek_run-ran.result) _ at-run.seek_run-ran.ensures.0 at-run.seek_run-ran.ensures.1 _ (ap says_counted at-counted.in-Values.is),

@@ -7,7 +7,7 @@ pub returns-then-count-at : goal.returns-then-count-at
 returns-then-count-at c = c.run_from.ensures
 
 pub quick-run-requires : goal.quick-run-requires
-quick-run-requires c = let s = c.before.before in (c.if-count-at.false, s.requires..1, s.requires..2)
+quick-run-requires c = (c.if-count-at.false, c.requires.1, c.requires.2)
 
 pub returns-then-run-ne0 : goal.returns-then-run-ne0
 returns-then-run-ne0 c = c.quick-run.ensures (omega (arith, c.if-run-ne0.true))

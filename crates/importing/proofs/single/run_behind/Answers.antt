@@ -6,9 +6,8 @@ use Rattle.importing.proofs.single.run_behind.Goals as goal
 
 pub returns-then-quickly-ne0 : goal.returns-then-quickly-ne0
 returns-then-quickly-ne0 c =
-    let t = c.before.before in
-    let some : 0 < t.told-quickly.result.n = omega (arith, c.if-quickly-ne0.true) in
+    let some : 0 < c.told-quickly.result.n = omega (arith, c.if-quickly-ne0.true) in
     record {
-  first = t.told-quickly.ensures.first some;
-  behind = t.told-quickly.ensures.behind-rest some;
+  first = c.told-quickly.ensures.first some;
+  behind = c.told-quickly.ensures.behind some;
 }

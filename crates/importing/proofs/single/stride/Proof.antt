@@ -78,10 +78,10 @@ module _ (c : tie.Else-ahead-eq0 invariant-loop decreases-loop) where
       omega (arith, h)
 
 cast-if2 : tie.Need-overflow_cast-ahead invariant-loop decreases-loop
-cast-if2 c = record { fits = omega (arith, trailing_le 64 c.before.window-ahead.result) }
+cast-if2 c = record { fits = omega (arith, trailing_le 64 c.window-ahead.result) }
 
 add-if2 : tie.Need-overflow_add-ahead invariant-loop decreases-loop
-add-if2 c = record { fits = omega (arith, trailing_le 64 c.before.window-ahead.result) }
+add-if2 c = record { fits = omega (arith, trailing_le 64 c.window-ahead.result) }
 
 returns-2 : tie.Need-returns-then-ahead-by invariant-loop decreases-loop
 returns-2 c = (l c.before).loop-last.invariant.0
@@ -107,7 +107,7 @@ loop-again c =
     )
 
 returns-3 : tie.Need-returns invariant-loop decreases-loop
-returns-3 c = c.before.loop-last.invariant.0
+returns-3 c = c.loop-last.invariant.0
 
 pub stride_spec : {M : Type 1} → statement M
 stride_spec = tie.close (tie.spec invariant-loop decreases-loop sub_by loop-holds add-loop add-window window-requires returns cast-if2 add-if2 returns-2 add-last add-n loop-less loop-again returns-3)

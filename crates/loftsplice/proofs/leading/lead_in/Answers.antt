@@ -11,12 +11,22 @@ use Rattle.loftsplice.proofs.leading.lead_in.Goals as goal
 pub rest_of-rest-requires : goal.rest_of-rest-requires
 rest_of-rest-requires c =
     let o = c.requires.ordered in
-    ((o.is-start, o.is-end), (o.lies, (index-from _ c.args.scan o.good, c.requires.stood)))
+    record {
+  index_value = (o.is-start, o.is-end);
+  lies = o.lies;
+  by_index = index-from _ c.args.scan o.good;
+  stood = c.requires.stood;
+}
 
 pub seek_spot-found-requires : goal.seek_spot-found-requires
 seek_spot-found-requires c =
     let r = rest-ready c.requires.ordered _ _ _ _ c.rest_of-rest.ensures.index_value_2 c.rest_of-rest.ensures.lies_2 in
-    (r.whole, (omega (arith, r.is-end, end-in _ c.args.scan r.good), (r.rising, r.lies)))
+    record {
+  steps_value = r.whole;
+  end_bound = omega (arith, r.is-end, end-in _ c.args.scan r.good);
+  end_value = r.rising;
+  lies = r.lies;
+}
 
 pub past-requires : goal.past-requires
 past-requires c =
@@ -33,7 +43,7 @@ returns-in-Stay c =
 
 pub returns-in-Go : goal.returns-in-Go
 returns-in-Go c =
-    lead-go _ c.args.scan c.args.to _ _ c.in-Go.is c.move_in, .in-Go.ensures
+    lead-go _ c.args.scan c.args.to _ _ c.in-Go.is c.move_in.ensures
 
 pub returns-in-Past : goal.returns-in-Past
 returns-in-Past c =

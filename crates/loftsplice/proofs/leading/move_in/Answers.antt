@@ -15,7 +15,12 @@ next_in-requires c = record {
 pub rest_of-rest-requires : goal.rest_of-rest-requires
 rest_of-rest-requires c =
     let o = c.requires.ordered in
-    ((o.is-start, o.is-end), (o.lies, (index-from _ c.args.scan o.good, c.requires.stood)))
+    record {
+  index_value = (o.is-start, o.is-end);
+  lies = o.lies;
+  by_index = index-from _ c.args.scan o.good;
+  stood = c.requires.stood;
+}
 
 pub seek_in-requires : goal.seek_in-requires
 seek_in-requires c =

@@ -10,9 +10,9 @@ returns-in-Refused c = is-empty-refused _ _ (was-refused _ _ c.check-checked.ens
 pub returns-then-end_before-eq0 : goal.returns-then-end_before-eq0
 returns-then-end_before-eq0 c =
     is-empty-is _ (was-fine _ _ c.check-checked.ensures c.in-Fine.is) true
-    (eq-eqb _ 0 (sym c.end_before, .if-end_before-eq0.ensures ∙ c.if-end_before-eq0.true))
+    (eq-eqb _ 0 (sym c.end_before.ensures ∙ c.if-end_before-eq0.true))
 
 pub returns-else-end_before-eq0 : goal.returns-else-end_before-eq0
 returns-else-end_before-eq0 c =
     is-empty-is _ (was-fine _ _ c.check-checked.ensures c.in-Fine.is) false
-    (ne_eqb _ 0 (λ e. c.if-end_before-eq0.false (c.end_before, .if-end_before-eq0.ensures ∙ e)))
+    (ne_eqb _ 0 (λ e. c.if-end_before-eq0.false (c.end_before.ensures ∙ e)))

@@ -71,8 +71,8 @@ footing-in-requires c κs =
 returns-2 : tie.Need-returns-in-Refused
 returns-2 c =
     let at-checked = c in
-    let at-check-scan = at-checked in
-    let s = at-check-scan in
+    let at-check-scan = at-checked.before in
+    let s = at-check-scan.before.before in
     footing-refused _ s.args.scan _ at-check-scan.check_scan-stand.ensures.0 _ at-checked.in-Refused.is
 
 returns-3 : tie.Need-returns-else-not-rising

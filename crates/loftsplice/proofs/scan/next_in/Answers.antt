@@ -13,7 +13,7 @@ go_to-requires c =
     record {
   steps_value = c.requires.steps_value;
   end_bound = end-in _ c.args.scan c.requires.scan_value;
-  place_value = λ _. c.in-Fresh, .place_in-place.ensures;
+  place_value = λ _. c.place_in-place.ensures;
 }
 
 pub overflow_add-index : goal.overflow_add-index
@@ -23,14 +23,18 @@ overflow_add-index c =
 pub place_near-place-requires : goal.place_near-place-requires
 place_near-place-requires c =
     let is = c.in-At.is in
-    let p = stood-at c.args.ends.now _ _ is _ _ c.requires.stood in (
-      (sound-parts _ c.requires.steps_value).up,
-      rw p.0 at (next-near c.args.ends.now c.args.at.index c.args.at.place p.1 (omega (arith, p.0, end-in _ c.args.scan c.requires.scan_value, index_below _ c.args.scan c.requires.scan_value _ is))),
-    )
+    let p = stood-at c.args.ends.now _ _ is _ _ c.requires.stood in record {
+  rising = (sound-parts _ c.requires.steps_value).up;
+  run_in_bounds = rw p.0 at (next-near c.args.ends.now c.args.at.index c.args.at.place p.1 (omega (arith, p.0, end-in _ c.args.scan c.requires.scan_value, index_below _ c.args.scan c.requires.scan_value _ is)));
+}
 
 pub go_to-requires-in-At : goal.go_to-requires-in-At
 go_to-requires-in-At c =
-    (c.requires.steps_value, (end-in _ c.args.scan c.requires.scan_value, λ _. c.place_near-place.ensures))
+    record {
+  steps_value = c.requires.steps_value;
+  end_bound = end-in _ c.args.scan c.requires.scan_value;
+  place_value = λ _. c.place_near-place.ensures;
+}
 
 pub returns-in-Fresh : goal.returns-in-Fresh
 returns-in-Fresh c =

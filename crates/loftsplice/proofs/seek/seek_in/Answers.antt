@@ -8,7 +8,12 @@ use Rattle.loftsplice.proofs.seek.seek_in.Goals as goal
 
 pub seek_spot-to-requires : goal.seek_spot-to-requires
 seek_spot-to-requires c =
-    (c.requires.whole, (omega (arith, c.requires.is-end, end-in _ c.args.scan c.requires.good), (c.requires.rising, c.requires.lies)))
+    record {
+  steps_value = c.requires.whole;
+  end_bound = omega (arith, c.requires.is-end, end-in _ c.args.scan c.requires.good);
+  end_value = c.requires.rising;
+  lies = c.requires.lies;
+}
 
 pub go_to-requires : goal.go_to-requires
 go_to-requires c =

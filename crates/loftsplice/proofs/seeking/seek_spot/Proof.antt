@@ -22,7 +22,7 @@ origin c =
     let at_from = c.before.before in
     at_from.before.before
 
-low : (c : tie.Else-end-from) → let w = (origin c).args.window in w.from.place.run ≡ run_of (origin c).args.ends.now w.from-1.index
+low : (c : tie.Else-end-from) → let w = (origin c).args.window in w.from.place.run ≡ run_of (origin c).args.ends.now w.from.index
 low c = ap (λ (p : Place). p.run) ((origin c).requires.1.1.1 c.if-end-from.false).0
 
 high : (c : tie.Else-end-from) → let w = (origin c).args.window in w.last ≡ run_of (origin c).args.ends.now (w.end - 1)
@@ -50,7 +50,7 @@ found c =
 
 known : (c : tie.After-index_in-arg-2-1) →
     let at-slice2 = c.before.before.before in let at-larger = at-slice2.before in let at-end-before = at-larger.before in let s = st (found c) in
-    Sought (column_now s.args.starts s.args.ends s.args.steps) s.args.target s.args.window.from.index s.args.window.end (found c).run_for-run.result at-end-before.end_before-first, .if-end-from.result at-larger.larger-a.result c.smaller-b.result
+    Sought (column_now s.args.starts s.args.ends s.args.steps) s.args.target s.args.window.from.index s.args.window.end (found c).run_for-run.result at-end-before.end_before-first.result at-larger.larger-a.result c.smaller-b.result
 known c =
     let at-slice2 = c.before.before.before in
     let at-larger = at-slice2.before in
@@ -58,7 +58,7 @@ known c =
     let o = found c in
     let s = st o in
     sought _ (whole s) _ _ (some o) (fit s) _ _ _ _ (low o.before.before) (high o.before.before) (run o) s.requires.1.1.0 _ _ _
-    at-end-before.end_Before.ensures at-larger.larger-a.ensures c.smaller-b.ensures
+    at-end-before.end_before-first.ensures at-larger.larger-a.ensures c.smaller-b.ensures
 
 of-start : (c : tie.After-index_in-arg-2-1) → let o = found c in let v = get_or (st o).args.starts.now o.run_for-run.result (pos 0) in to_z w64 (of_z w64 v) ≡ v
 of-start c = let o = found c in back w64 _ c.index_in-arg-1.given
@@ -69,7 +69,7 @@ of-step c = let o = found c in back w16 _ c.index_in-arg-2-1.given
 -- past the second search
 index : (c : tie.After-index_in-index) →
     let a = c.before in let at-slice2 = a.before.before.before in let at-larger = at-slice2.before in let o = found a in let s = st o in
-    IndexFor (get_or s.args.starts.now o.run_for-run.result (pos 0)) (get_or s.args.steps.now o.run-for.result (pos 0)) s.args.target at-larger.before.end_Before.result at-larger.larger.result a.before.before.smaller.result c.index_in-index.result
+    IndexFor (get_or s.args.starts.now o.run_for-run.result (pos 0)) (get_or s.args.steps.now o.run_for-run.result (pos 0)) s.args.target at-larger.end_before-first.result at-larger.larger-a.result a.smaller-b.result c.index_in-index.result
 index c = rw (of-start c.before, of-step c.before, to_z-of_z (st (found c.before)).ranges.target) at c.index_in-index.ensures
 
 returns : tie.Need-returns-then-end-from
@@ -139,7 +139,7 @@ place-near-requires c κs =
     let at-slice2 = a.before.before.before in
     let at-end-before = at-slice2.before.before in
     let j = index c in
-    ((whole (st o)).up, (here o, omega (arith, at-end-before.end_Before.ensures, (known a).window, j.above), omega (arith, a.smaller-b.ensures, j.under)))
+    ((whole (st o)).up, (here o, omega (arith, at-end-before.end_before-first.ensures, (known a).window, j.above), omega (arith, a.smaller-b.ensures, j.under)))
 
 returns-2 : tie.Need-returns
 returns-2 c = ((known c.before.before).is _ (index c.before), λ _. c.place_near-place.ensures)

@@ -34,7 +34,7 @@ nowhere-requires c κs = search rules
 returns : tie.Need-returns-in_default
 returns c =
     let at-outer = c.before in
-    let s = at-outer.before in
+    let s = at-outer.before.before in
     let told = ap says_checked c.nowhere.ensures in
     (told ∙ ap (says s) (sym c.in_default.is), λ e. refuses-not _ (sym told ∙ e))
 
@@ -46,8 +46,8 @@ place-in-requires c κs =
 element-at-requires : tie.Need-element_at-requires
 element-at-requires c κs =
     let at_value = c.before in
-    let s = at_value.before in
-    (s.requires.0, (s.requires.1, c.in-Value, .place_in-place.ensures))
+    let s = at_value.before.before in
+    (s.requires.0, (s.requires.1, c.place_in-place.ensures))
 
 nowhere-requires-2 : tie.Need-nowhere-requires-then-element_at-held
 nowhere-requires-2 c κs = search rules
@@ -56,7 +56,7 @@ returns-2 : tie.Need-returns-then-element_at-held
 returns-2 c =
     let at-element = c.before.before in
     let at_value = at-element.before.before in
-    let s = at_value.before in
+    let s = at_value.before.before in
     let v = at_value.in-Value.held in
     let told = ap says_checked c.nowhere-then-element_at-held.ensures in
     let other : same_value (some v) (some (element s)) ≡ false = other-value v (element s) (λ e. c.if-element_at-held.true (ap (of_z w64) (at-element.element_at.ensures ∙ e))) in
@@ -66,11 +66,11 @@ returns-3 : tie.Need-returns
 returns-3 c =
     let at-element = c.before in
     let at_value = at-element.before.before in
-    let s = at_value.before in
+    let s = at_value.before.before in
     let v = at_value.in-Value.held in
     let here : element s ≡ v = sym at-element.element_at.ensures ∙ same w64 _ v at-element.element_at.type_inv at-element.in-Value.known_told-1-own.given.0.1 c.if-element_at-held.false in
     let both : same_value (some v) (some (element s)) ≡ true = rw here (same-value (some v)) in
-    (ap (λ t. off_if (not t)) (sym both) ∙ ap (says s) (sym at_value.in-Value.is), λ _. (refl, at-element.IsPlace-in.ensures))
+    (ap (λ t. off_if (not t)) (sym both) ∙ ap (says s) (sym at_value.in-Value.is), λ _. (refl, at-element.place_in-place.ensures))
 
 pub check_value_spec : {M : Type 1} → statement M
 check_value_spec = tie.close (tie.spec enum-known-value enum_told nowhere-requires returns place-in-requires element-at-requires nowhere-requires-2 returns-2 returns-3)

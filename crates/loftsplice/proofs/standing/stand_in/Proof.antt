@@ -13,7 +13,7 @@ start c = c.before.before.before
 
 -- the window ends in the column
 within : (c : tie.Else-end_before-end) → let s = start c in s.args.scan.end ≤ size_of (column_now s.args.starts s.args.ends s.args.steps)
-within c = omega (arith, c.end_before, .if-end_before-end.ensures, c.if-end_before-end.false)
+within c = omega (arith, c.end_before.ensures, c.if-end_before-end.false)
 
 -- at an index
 abbrev outer : tie.In-At → tie.Else-end_before-end

@@ -7,13 +7,13 @@ use borrow.Author.Rules.{rules}
 use Rattle.profiles.proofs.parts.below.Goals as goal
 
 pub returns-then-x-first : goal.returns-then-x-first
-returns-then-x-first c = let s = c.before in below_none s.args.first s.args.step s.args.more s.args.x c.if-x-first.true
+returns-then-x-first c = below_none c.args.first c.args.step c.args.more c.args.x c.if-x-first.true
 
 pub returns-then-first-step : goal.returns-then-first-step
-returns-then-first-step c = let s = c.before.before in below_all s.args.first s.args.step s.args.more s.args.x c.if-first-step.true
+returns-then-first-step c = below_all c.args.first c.args.step c.args.more c.args.x c.if-first-step.true
 
 pub overflow_add-result-2 : goal.overflow_add-result-2
-overflow_add-result-2 c = let s = c.before.before in omega (arith, div-le_self (s.args.x - s.args.first - 1) s.args.step)
+overflow_add-result-2 c = omega (arith, div-le_self (c.args.x - c.args.first - 1) c.args.step)
 
 pub returns : goal.returns
-returns c = let s = c.before.before in below-some s.args.first s.args.step s.args.more s.args.x s.requires..0 c.if-x-first.false c.if-first-step.false
+returns c = below-some c.args.first c.args.step c.args.more c.args.x c.requires.0 c.if-x-first.false c.if-first-step.false

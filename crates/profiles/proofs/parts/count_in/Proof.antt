@@ -28,16 +28,16 @@ st c = c.before.before
 abbrev col : tie.Start invariant-loop decreases-loop → Column
 col s = column_now s.args.starts s.args.ends s.args.steps
 
-there : (c : tie.In-loop-r invariant-loop decreases-loop) → c.before.loop-r.r < length (st c.before).args.ends.now
+there : (c : tie.In-loop-r invariant-loop decreases-loop) → c.loop-r.r < length (st c.before).args.ends.now
 there c =
     let s = st c.before in
-    in-runs (col s) s.args.count s.pre.0 s.args.from s.args.to s.args.begin s.args.stop s.pre.1.2 c.before.loop-r.r (omega (arith, c.loop-r-test.true))
+    in-runs (col s) s.args.count s.requires.0 s.args.from s.args.to s.args.begin s.args.stop s.requires.1.2 c.loop-r.r (omega (arith, c.loop-r-test.true))
 
 loop-holds : tie.Need-loop-r-init invariant-loop decreases-loop
 loop-holds c = let s = c.before in (s.requires.1.2.order, count_none (col s) s.args.count s.requires.0 s.args.from s.args.to s.requires.1.0 s.args.begin s.args.stop s.requires.1.2)
 
 part-at-requires : tie.Need-part_at-part-requires invariant-loop decreases-loop
-part-at-requires c κs = let s = st c.before in (s.pre.0, (there c, s.pre.1.0))
+part-at-requires c κs = let s = st c.before in (s.requires.0, (there c, s.requires.1.0))
 
 -- one run more
 module _ (c : tie.After-part_at-part invariant-loop decreases-loop) where
@@ -48,14 +48,14 @@ module _ (c : tie.After-part_at-part invariant-loop decreases-loop) where
   at = turn.before
 
   next : at.loop-r.sum + c.part_at-part.result.n ≡ count_for (carries_record (sequence_of (col (st at)))) (st at).args.from (nearest (st at).args.from (st at).args.to (floor_of (col (st at)) (at.loop-r.r + 1)) - (st at).args.from)
-  next = count_next (col (st at)) (st at).args.count (st at).pre.0 (st at).args.from (st at).args.to (st at).pre.1.0 at.loop-r.r (there turn)
+  next = count_next (col (st at)) (st at).args.count (st at).requires.0 (st at).args.from (st at).args.to (st at).requires.1.0 at.loop-r.r (there turn)
       at.loop-r.sum c.part_at-part.result.first c.part_at-part.result.step c.part_at-part.result.n at.loop-r.invariant.1 c.part_at-part.ensures
 
 add-sum : tie.Need-overflow_add-sum invariant-loop decreases-loop
 add-sum c =
     let k = c.before in
     let s = st (at k) in
-    omega (arith, next k, count-few (carries_record (sequence_of (col s))) (nearest s.args.from s.args.to (floor_of (col s) ((at k).loop-r.r + 1)) - s.args.from) s.args.from, s.pre.0.few, s.pre.1.1)
+    omega (arith, next k, count-few (carries_record (sequence_of (col s))) (nearest s.args.from s.args.to (floor_of (col s) ((at k).loop-r.r + 1)) - s.args.from) s.args.from, s.requires.0.few, s.requires.1.1)
 
 add_r : tie.Need-overflow_add-r invariant-loop decreases-loop
 add_r c = search rules
@@ -72,7 +72,7 @@ returns c =
     let s = st a in
     let e : a.loop-r.r ≡ s.args.stop = omega arith in
     a.loop-r.invariant.1 ∙ ap (λ r. count_for (carries_record (sequence_of (col s))) s.args.from (nearest s.args.from s.args.to (floor_of (col s) r) - s.args.from)) e
-    ∙ count-done (col s) s.args.count s.pre.0 s.args.from s.args.to s.pre.1.0 s.args.begin s.args.stop s.pre.1.2
+    ∙ count-done (col s) s.args.count s.requires.0 s.args.from s.args.to s.requires.1.0 s.args.begin s.args.stop s.requires.1.2
 
 pub count_in_spec : {M : Type 1} → statement M
 count_in_spec = tie.close (tie.spec invariant-loop decreases-loop loop-holds part-at-requires add-sum add_r loop-less loop-again returns)

@@ -11,20 +11,14 @@ use Rattle.profiles.proofs.parts.count_sought.Goals as goal
 
 pub returns-then-here : goal.returns-then-here
 returns-then-here c =
-    let k = c.before in
-    let s = k.before.before in
-    let p = carries_record (sequence_of (column_now s.args.starts s.args.ends s.args.steps)) in
-    rw c.if-here.true (k.count_in-elements.ensures ∙ sym (numbers-length p (s.args.to - s.args.from) s.args.from))
+    let p = carries_record (sequence_of (column_now c.args.starts c.args.ends c.args.steps)) in
+    rw c.if-here.true (c.count_in-elements.ensures ∙ sym (numbers-length p (c.args.to - c.args.from) c.args.from))
 
 pub overflow_sub-result-2 : goal.overflow_sub-result-2
 overflow_sub-result-2 c =
-    let k = c.before in
-    let s = k.before.before in
-    omega (arith, k.count_in-elements.ensures, counts-add (carries_record (sequence_of (column_now s.args.starts s.args.ends s.args.steps))) (s.args.to - s.args.from) s.args.from)
+    omega (arith, c.count_in-elements.ensures, counts-add (carries_record (sequence_of (column_now c.args.starts c.args.ends c.args.steps))) (c.args.to - c.args.from) c.args.from)
 
 pub returns : goal.returns
 returns c =
-    let k = c.before in
-    let s = k.before.before in
-    let p = carries_record (sequence_of (column_now s.args.starts s.args.ends s.args.steps)) in
-    rw c.if-here.false (others-count p (s.args.to - s.args.from) s.args.from k.count_in-elements.result k.count_in-elements.ensures)
+    let p = carries_record (sequence_of (column_now c.args.starts c.args.ends c.args.steps)) in
+    rw c.if-here.false (others-count p (c.args.to - c.args.from) c.args.from c.count_in-elements.result c.count_in-elements.ensures)

@@ -18,7 +18,7 @@ module _ (c : tie.After-run_at-run) where
   st = c.before.before
 
   last : c.run_at-run.result.first + c.run_at-run.result.step * c.run_at-run.result.more < st.args.count
-  last = run-last (col st) st.args.count st.pre.0 st.args.from st.args.to st.args.r _ _ _ st.pre.1.0 c.run_at-run.ensures
+  last = run-last (col st) st.args.count st.requires.0 st.args.from st.args.to st.args.r _ _ _ st.requires.1.0 c.run_at-run.ensures
 
 run-at-requires : tie.Need-run_at-run-requires
 run-at-requires c κs = search rules
@@ -35,21 +35,21 @@ module _ (c : tie.After-below-take) where
   run = c.before.before
 
   few : run.run_at-run.result.step * c.below-take.result ≤ run.run_at-run.result.step * run.run_at-run.result.more + run.run_at-run.result.step
-  few = taken (col (st run)) (st run).args.count (st run).pre.0 (st run).args.from (st run).args.to (st run).args.r _ _ _ (st run).pre.1.0 run.run_at-run.ensures
-      (st run).pre.1.1 c.before.below-skip.result c.below-take.result c.before.below-skip.ensures c.below-take.ensures
+  few = taken (col (st run)) (st run).args.count (st run).requires.0 (st run).args.from (st run).args.to (st run).args.r _ _ _ (st run).requires.1.0 run.run_at-run.ensures
+      (st run).requires.1.1 c.below-skip.result c.below-take.result c.below-skip.ensures c.below-take.ensures
 
-  order : c.before.below-skip.result ≤ c.below-take.result
-  order = skip-take (col (st run)) (st run).args.count (st run).pre.0 (st run).args.from (st run).args.to (st run).args.r _ _ _ (st run).pre.1.0 run.run_at-run.ensures
-      (st run).pre.1.1 c.before.below-skip.result c.below-take.result c.before.below-skip.ensures c.below-take.ensures
+  order : c.below-skip.result ≤ c.below-take.result
+  order = skip-take (col (st run)) (st run).args.count (st run).requires.0 (st run).args.from (st run).args.to (st run).args.r _ _ _ (st run).requires.1.0 run.run_at-run.ensures
+      (st run).requires.1.1 c.below-skip.result c.below-take.result c.below-skip.ensures c.below-take.ensures
 
-  less : run.run_at-run.result.step * c.before.below-skip.result ≤ run.run_at-run.result.step * c.below-take.result
+  less : run.run_at-run.result.step * c.below-skip.result ≤ run.run_at-run.result.step * c.below-take.result
   less = mul-le-mul_left run.run_at-run.result.step order
 
 mul-t13 : tie.Need-overflow_mul-result
-mul-t13 c = omega (arith, few c, less c, last (run c), (st (run c)).pre.0.few, (run c).run_at-run.ensures.up)
+mul-t13 c = omega (arith, few c, less c, last (run c), (st (run c)).requires.0.few, (run c).run_at-run.ensures.up)
 
 add-t14 : tie.Need-overflow_add-result
-add-t14 c = omega (arith, few c, less c, last (run c), (st (run c)).pre.0.few, (run c).run_at-run.ensures.up)
+add-t14 c = omega (arith, few c, less c, last (run c), (st (run c)).requires.0.few, (run c).run_at-run.ensures.up)
 
 sub-t15 : tie.Need-overflow_sub-result
 sub-t15 c = order c
@@ -57,8 +57,8 @@ sub-t15 c = order c
 returns : tie.Need-returns
 returns c =
     let k = run c in
-    strip-at (col (st k)) (st k).args.count (st k).pre.0 (st k).args.from (st k).args.to (st k).args.r _ _ _ (st k).pre.1.0 k.run_at-run.ensures
-    (st k).pre.1.1 c.before.below-skip.result c.below-take.result c.before.below-skip.ensures c.below-take.ensures
+    strip-at (col (st k)) (st k).args.count (st k).requires.0 (st k).args.from (st k).args.to (st k).args.r _ _ _ (st k).requires.1.0 k.run_at-run.ensures
+    (st k).requires.1.1 c.below-skip.result c.below-take.result c.below-skip.ensures c.below-take.ensures
 
 pub part_at_spec : {M : Type 1} → statement M
 part_at_spec = tie.close (tie.spec run-at-requires below-requires below-requires-2 mul-t13 add-t14 sub-t15 returns)

@@ -33,22 +33,22 @@ module _ (c : tie.After-bias-first) where
   st = low.before.before
 
   of-start : c.bias-first.result ≡ key half64 (start_of (col st) st.args.r)
-  of-start = c.bias-first.ensures ∙ ap (key half64) (back w64 (start_of (col st) st.args.r) c.before.bias-arg-1.given)
+  of-start = c.bias-first.ensures ∙ ap (key half64) (back w64 (start_of (col st) st.args.r) c.bias-arg-1.given)
 
   above : half64 ≤ key half64 (start_of (col st) st.args.r)
-  above = run-key (col st) st.args.count st.pre.0 0 0 st.args.r st.pre.1
+  above = run-key (col st) st.args.count st.requires.0 0 0 st.args.r st.requires.1
 
   first-is : c.bias-first.result - 9223372036854775808 ≡ first_at (start_of (col st) st.args.r)
   first-is = ap (λ x. x - 9223372036854775808) of-start
 
   rise : end_before st.args.ends.now st.args.r < get_or st.args.ends.now st.args.r 0
-  rise = (good st).up st.args.r st.pre.1
+  rise = (good st).up st.args.r st.requires.1
 
   most : get_or st.args.ends.now st.args.r 0 ≤ 4294967295
-  most = (good st).most st.args.r st.pre.1
+  most = (good st).most st.args.r st.requires.1
 
-  more-is : get_or st.args.ends.now st.args.r 0 - low.end_Before.result - 1 ≡ more_of (col st) st.args.r
-  more-is = ap (λ x. get_or st.args.ends.now st.args.r 0 - x - 1) low.end_Before.ensures
+  more-is : get_or st.args.ends.now st.args.r 0 - low.end_before-low.result - 1 ≡ more_of (col st) st.args.r
+  more-is = ap (λ x. get_or st.args.ends.now st.args.r 0 - x - 1) low.end_before-low.ensures
 
 end-before-requires : tie.Need-end_before-low-requires
 end-before-requires c κs = search rules
@@ -72,10 +72,10 @@ shared-slice-read-more : tie.Need-bounds-ends-r
 shared-slice-read-more c = search rules
 
 sub_more : tie.Need-overflow_sub-more
-sub_more c = omega (arith, rise c.before, (low c.before).end_Before.ensures)
+sub_more c = omega (arith, rise c.before, (low c.before).end_before-low.ensures)
 
 sub-more-2 : tie.Need-overflow_sub-more-2
-sub-more-2 c = omega (arith, rise c.before, (low c.before).end_Before.ensures)
+sub-more-2 c = omega (arith, rise c.before, (low c.before).end_before-low.ensures)
 
 returns : tie.Need-returns-then-more-eq0
 returns c =
@@ -111,7 +111,7 @@ returns-2 c =
       short = omega (arith, most b);
       by = λ k l. ap (λ x. x * k) of-step;
       up = (
-        subst⁻¹ (λ x. 0 < x) of-step (run_up (col s) s.args.count s.pre.0 0 0 s.args.r s.pre.1 (some_more _ _ e.if-more-eq0.false (more-is b))),
+        subst⁻¹ (λ x. 0 < x) of-step (run_up (col s) s.args.count s.requires.0 0 0 s.args.r s.requires.1 (some_more _ _ e.if-more-eq0.false (more-is b))),
         subst⁻¹ (λ x. x ≤ 32768) of-step (nat_abs-le (step_of (col s) s.args.r) {H = 32768} a.size16-arg-1.given),
       );
     }

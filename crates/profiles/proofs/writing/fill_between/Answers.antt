@@ -7,17 +7,12 @@ use borrow.Author.Rules.{rules}
 use Rattle.profiles.proofs.writing.fill_between.Goals as goal
 
 pub returns-then-step-eq1 : goal.returns-then-step-eq1
-returns-then-step-eq1 c = let s = c.before.before in nothing-between s.args.first s.args.step s.args.gaps s.args.out.now c.if-step-eq1.true s.requires..1
+returns-then-step-eq1 c = nothing-between c.args.first c.args.step c.args.gaps c.args.out.now c.if-step-eq1.true c.requires.1
 
 pub fill-requires : goal.fill-requires
 fill-requires c =
-    let e = c.before in
-    let s = e.before.before.before in
-    omega (arith, one-wide s.args.step s.args.gaps e.if-step-eq2.true, s.requires..1, s.requires..2)
+    omega (arith, one-wide c.args.step c.args.gaps c.if-step-eq2.true, c.requires.1, c.requires.2)
 
 pub returns-then-step-eq2 : goal.returns-then-step-eq2
 returns-then-step-eq2 c =
-    let f = c.before.before in
-    let e = f.before.before in
-    let s = e.before.before.before in
-    f.fill.ensures ∙ two-between s.args.first s.args.step s.args.gaps (length s.args.out.now) e.if-step-eq2.true s.requires..1
+    c.fill.ensures ∙ two-between c.args.first c.args.step c.args.gaps (length c.args.out.now) c.if-step-eq2.true c.requires.1

@@ -8,19 +8,19 @@ use borrow.Author.Rules.{rules}
 use Rattle.profiles.proofs.writing.passed.Goals as goal
 
 pub returns-then-n-eq0 : goal.returns-then-n-eq0
-returns-then-n-eq0 c = let s = c.before in sym (ap length (past-none s.args.at s.args.first s.args.step s.args.n c.if-n-eq0.true))
+returns-then-n-eq0 c = sym (ap length (past-none c.args.at c.args.first c.args.step c.args.n c.if-n-eq0.true))
 
 pub overflow_sub-result : goal.overflow_sub-result
-overflow_sub-result c = let s = c.before in s.requires..above (some-of s.args.n c.if-n-eq0.false)
+overflow_sub-result c = c.requires.above (some-of c.args.n c.if-n-eq0.false)
 
 pub overflow_sub-result-2 : goal.overflow_sub-result-2
-overflow_sub-result-2 c = let s = c.before in omega (arith, s.requires..up)
+overflow_sub-result-2 c = omega (arith, c.requires.up)
 
 pub overflow_mul-result : goal.overflow_mul-result
-overflow_mul-result c = let s = c.before in omega (arith, past-few s.args.step (s.args.n - 1), s.requires..last (some-of s.args.n c.if-n-eq0.false))
+overflow_mul-result c = omega (arith, past-few c.args.step (c.args.n - 1), c.requires.last (some-of c.args.n c.if-n-eq0.false))
 
 pub overflow_add-result : goal.overflow_add-result
-overflow_add-result c = let s = c.before in omega (arith, past-few s.args.step (s.args.n - 1), s.requires..last (some-of s.args.n c.if-n-eq0.false))
+overflow_add-result c = omega (arith, past-few c.args.step (c.args.n - 1), c.requires.last (some-of c.args.n c.if-n-eq0.false))
 
 pub returns : goal.returns
-returns c = let s = c.before in sym (past-long s.args.at s.args.first s.args.step s.args.n (some-of s.args.n c.if-n-eq0.false))
+returns c = sym (past-long c.args.at c.args.first c.args.step c.args.n (some-of c.args.n c.if-n-eq0.false))

@@ -41,15 +41,15 @@ module _ (c : tie.At-loop-r invariant-loop decreases-loop) where
   front = below (col st) st.args.from st.args.to c.loop-r.r
 
   within : c.loop-r.n ≤ length st.args.out.now
-  within = omega (arith, c.loop-r.invariant.1, st.pre.1.1, elements-most (col st) st.args.count st.pre.0 st.args.from st.args.to st.pre.1.0.0 c.loop-r.r)
+  within = omega (arith, c.loop-r.invariant.1, st.requires.1.1, elements-most (col st) st.args.count st.requires.0 st.args.from st.args.to st.requires.1.0.0 c.loop-r.r)
 
   long : length c.loop-r.out ≡ length st.args.out.now
   long = front_length front st.args.out.now c.loop-r.n c.loop-r.invariant.1 c.loop-r.out c.loop-r.invariant.2 within
 
-there : (c : tie.In-loop-r invariant-loop decreases-loop) → c.before.loop-r.r < length (st c.before).args.ends.now
+there : (c : tie.In-loop-r invariant-loop decreases-loop) → c.loop-r.r < length (st c.before).args.ends.now
 there c =
     let s = st c.before in
-    in-runs (col s) s.args.count s.pre.0 s.args.from s.args.to s.args.begin s.args.stop s.pre.1.0.2 c.before.loop-r.r c.loop-r-test.true
+    in-runs (col s) s.args.count s.requires.0 s.args.from s.args.to s.args.begin s.args.stop s.requires.1.0.2 c.loop-r.r c.loop-r-test.true
 
 -- one run more
 module _ (c : tie.After-part_at-part invariant-loop decreases-loop) where
@@ -66,8 +66,8 @@ module _ (c : tie.After-part_at-part invariant-loop decreases-loop) where
   room = omega (
     arith,
     at.loop-r.invariant.1,
-    (st at).pre.1.1,
-    elements-room (col (st at)) (st at).args.count (st at).pre.0 (st at).args.from (st at).args.to (st at).pre.1.0.0 at.loop-r.r c.part_at-part.result.first c.part_at-part.result.step m
+    (st at).requires.1.1,
+    elements-room (col (st at)) (st at).args.count (st at).requires.0 (st at).args.from (st at).args.to (st at).requires.1.0.0 at.loop-r.r c.part_at-part.result.first c.part_at-part.result.step m
         (there turn) c.part_at-part.ensures,
   )
 
@@ -75,7 +75,7 @@ module _ (c : tie.After-part_at-part invariant-loop decreases-loop) where
   lent = lent_length (front at) (st at).args.out.now at.loop-r.n at.loop-r.invariant.1 at.loop-r.out at.loop-r.invariant.2 (at.loop-r.n + m) m refl room
 
   next : front at ++ stepped c.part_at-part.result.first c.part_at-part.result.step m ≡ below (col (st at)) (st at).args.from (st at).args.to (at.loop-r.r + 1)
-  next = elements-next (col (st at)) (st at).args.count (st at).pre.0 (st at).args.from (st at).args.to (st at).pre.1.0.0 at.loop-r.r c.part_at-part.result.first c.part_at-part.result.step m
+  next = elements-next (col (st at)) (st at).args.count (st at).requires.0 (st at).args.from (st at).args.to (st at).requires.1.0.0 at.loop-r.r c.part_at-part.result.first c.part_at-part.result.step m
       (there turn) c.part_at-part.ensures
 
 loop-holds : tie.Need-loop-r-init invariant-loop decreases-loop
@@ -85,13 +85,13 @@ loop-holds c =
     (s.requires.1.0.2.order, ap length z, ap (λ l. l ++ s.args.out.now) (sym z))
 
 part-at-requires : tie.Need-part_at-part-requires invariant-loop decreases-loop
-part-at-requires c κs = let s = st c.before in (s.pre.0, (there c, s.pre.1.0.0))
+part-at-requires c κs = let s = st c.before in (s.requires.0, (there c, s.requires.1.0.0))
 
 add-next : tie.Need-overflow_add-next invariant-loop decreases-loop
-add-next c = omega (arith, room c, (st (at c)).good)
+add-next c = omega (arith, room c, (st (at c)).well_formed)
 
 mul-fill : tie.Need-offset_bounds-out-n invariant-loop decreases-loop
-mul-fill c = omega (arith, within (at c), (st (at c)).good)
+mul-fill c = omega (arith, within (at c), (st (at c)).well_formed)
 
 sub-fill : tie.Need-slice_bounds-fill-count invariant-loop decreases-loop
 sub-fill c = omega arith
@@ -132,8 +132,8 @@ returns c =
     let s = st a in
     let e : a.loop-r.r ≡ s.args.stop = omega arith in
     let all : front a ≡ numbers_in (carries_record (sequence_of (col s))) s.args.from s.args.to =
-    ap (below (col s) s.args.from s.args.to) e ∙ elements-done (col s) s.args.count s.pre.0 s.args.from s.args.to s.pre.1.0.0 s.args.begin s.args.stop s.pre.1.0.2 in
-    let n : a.loop-r.n ≡ length s.args.out.now = sym a.loop-r.invariant.1 ∙ ap length all ∙ sym s.pre.1.1 in
+    ap (below (col s) s.args.from s.args.to) e ∙ elements-done (col s) s.args.count s.requires.0 s.args.from s.args.to s.requires.1.0.0 s.args.begin s.args.stop s.requires.1.0.2 in
+    let n : a.loop-r.n ≡ length s.args.out.now = sym a.loop-r.invariant.1 ∙ ap length all ∙ sym s.requires.1.1 in
     a.loop-r.invariant.2 ∙ ap₂ (λ x y. x ++ y) all (drop_of_length-le s.args.out.now {i = a.loop-r.n} (omega arith)) ∙ append-nil _
 
 pub write_elements_spec : {M : Type 1} → statement M

@@ -43,15 +43,15 @@ module _ (c : tie.At-loop-r invariant-loop decreases-loop) where
   front = below (col st) st.args.from c.loop-r.at
 
   within : c.loop-r.n ≤ length st.args.out.now
-  within = omega (arith, c.loop-r.invariant.2, st.pre.1.1, others-most (col st) st.args.count st.pre.0 st.args.from st.args.to st.pre.1.0.0 c.loop-r.r c.loop-r.at c.loop-r.invariant.1)
+  within = omega (arith, c.loop-r.invariant.2, st.requires.1.1, others-most (col st) st.args.count st.requires.0 st.args.from st.args.to st.requires.1.0.0 c.loop-r.r c.loop-r.at c.loop-r.invariant.1)
 
   long : length c.loop-r.out ≡ length st.args.out.now
   long = front_length front st.args.out.now c.loop-r.n c.loop-r.invariant.2 c.loop-r.out c.loop-r.invariant.3 within
 
-there : (c : tie.In-loop-r invariant-loop decreases-loop) → c.before.loop-r.r < length (st c.before).args.ends.now
+there : (c : tie.In-loop-r invariant-loop decreases-loop) → c.loop-r.r < length (st c.before).args.ends.now
 there c =
     let s = st c.before in
-    in-runs (col s) s.args.count s.pre.0 s.args.from s.args.to s.args.begin s.args.stop s.pre.1.0.2 c.before.loop-r.r c.loop-r-test.true
+    in-runs (col s) s.args.count s.requires.0 s.args.from s.args.to s.args.begin s.args.stop s.requires.1.0.2 c.loop-r.r c.loop-r-test.true
 
 -- one run more
 module _ (c : tie.After-part_at-part invariant-loop decreases-loop) where
@@ -65,24 +65,24 @@ module _ (c : tie.After-part_at-part invariant-loop decreases-loop) where
   past = past_of at.loop-r.at c.part_at-part.result.first c.part_at-part.result.step c.part_at-part.result.n
 
   ahead : Ahead at.loop-r.at c.part_at-part.result.first c.part_at-part.result.step c.part_at-part.result.n
-  ahead = others-ahead (col (st at)) (st at).args.count (st at).pre.0 (st at).args.from (st at).args.to (st at).pre.1.0.0 at.loop-r.r at.loop-r.at c.part_at-part.result.first c.part_at-part.result.step
-      c.part_at-part.result.n (there turn) at.loop-r.invariant.1 c.part_at-part.ensures (st at).pre.1.0.1
+  ahead = others-ahead (col (st at)) (st at).args.count (st at).requires.0 (st at).args.from (st at).args.to (st at).requires.1.0.0 at.loop-r.r at.loop-r.at c.part_at-part.result.first c.part_at-part.result.step
+      c.part_at-part.result.n (there turn) at.loop-r.invariant.1 c.part_at-part.ensures (st at).requires.1.0.1
 
   room : at.loop-r.n + length past ≤ length (st at).args.out.now
   room = omega (
     arith,
     at.loop-r.invariant.2,
-    (st at).pre.1.1,
-    others-room (col (st at)) (st at).args.count (st at).pre.0 (st at).args.from (st at).args.to (st at).pre.1.0.0 at.loop-r.r at.loop-r.at c.part_at-part.result.first c.part_at-part.result.step
+    (st at).requires.1.1,
+    others-room (col (st at)) (st at).args.count (st at).requires.0 (st at).args.from (st at).args.to (st at).requires.1.0.0 at.loop-r.r at.loop-r.at c.part_at-part.result.first c.part_at-part.result.step
         c.part_at-part.result.n (there turn) at.loop-r.invariant.1 c.part_at-part.ensures,
   )
 
   joined : front at ++ past ≡ below (col (st at)) (st at).args.from (beyond_of at.loop-r.at c.part_at-part.result.first c.part_at-part.result.step c.part_at-part.result.n)
-  joined = others-joined (col (st at)) (st at).args.count (st at).pre.0 (st at).args.from (st at).args.to (st at).pre.1.0.0 at.loop-r.r at.loop-r.at c.part_at-part.result.first c.part_at-part.result.step
+  joined = others-joined (col (st at)) (st at).args.count (st at).requires.0 (st at).args.from (st at).args.to (st at).requires.1.0.0 at.loop-r.r at.loop-r.at c.part_at-part.result.first c.part_at-part.result.step
       c.part_at-part.result.n (there turn) at.loop-r.invariant.1 c.part_at-part.ensures
 
   next : Others (col (st at)) (st at).args.from (st at).args.to (at.loop-r.r + 1) (beyond_of at.loop-r.at c.part_at-part.result.first c.part_at-part.result.step c.part_at-part.result.n)
-  next = others-next (col (st at)) (st at).args.count (st at).pre.0 (st at).args.from (st at).args.to (st at).pre.1.0.0 at.loop-r.r at.loop-r.at c.part_at-part.result.first c.part_at-part.result.step
+  next = others-next (col (st at)) (st at).args.count (st at).requires.0 (st at).args.from (st at).args.to (st at).requires.1.0.0 at.loop-r.r at.loop-r.at c.part_at-part.result.first c.part_at-part.result.step
       c.part_at-part.result.n (there turn) at.loop-r.invariant.1 c.part_at-part.ensures
 
 -- as many as were told
@@ -103,16 +103,16 @@ loop-holds c =
     (s.requires.1.0.2.order, others-first (col s) s.args.count s.requires.0 s.args.from s.args.to s.requires.1.0.0 s.args.begin s.args.stop s.requires.1.0.2, ap length z, ap (λ l. l ++ s.args.out.now) (sym z))
 
 part-at-requires : tie.Need-part_at-part-requires invariant-loop decreases-loop
-part-at-requires c κs = let s = st c.before in (s.pre.0, (there c, s.pre.1.0.0))
+part-at-requires c κs = let s = st c.before in (s.requires.0, (there c, s.requires.1.0.0))
 
 passed-requires : tie.Need-passed-requires invariant-loop decreases-loop
 passed-requires c κs = ahead c
 
 add-next : tie.Need-overflow_add-next invariant-loop decreases-loop
-add-next c = omega (arith, fits c, (st (at (run c))).good)
+add-next c = omega (arith, fits c, (st (at (run c))).well_formed)
 
 mul-fill-past : tie.Need-offset_bounds-out-n invariant-loop decreases-loop
-mul-fill-past c = omega (arith, within (at (run c)), (st (at (run c))).good)
+mul-fill-past c = omega (arith, within (at (run c)), (st (at (run c))).well_formed)
 
 sub-fill-past : tie.Need-slice_bounds-fill_past-count invariant-loop decreases-loop
 sub-fill-past c = omega arith
@@ -166,14 +166,14 @@ module _ (c : tie.After-loop-r invariant-loop decreases-loop) where
 
   rest : length done.loop-r.out ≡ done.loop-r.n + ((st done).args.to - done.loop-r.at)
   rest =
-      long done ∙ (st done).pre.1.1 ∙ sym (others-rest (col (st done)) (st done).args.count (st done).pre.0 (st done).args.from (st done).args.to (st done).pre.1.0.0 (st done).args.begin (st done).args.stop (st done).pre.1.0.2 done.loop-r.at at-stop)
+      long done ∙ (st done).requires.1.1 ∙ sym (others-rest (col (st done)) (st done).args.count (st done).requires.0 (st done).args.from (st done).args.to (st done).requires.1.0.0 (st done).args.begin (st done).args.stop (st done).requires.1.0.2 done.loop-r.at at-stop)
       ∙ ap (λ x. x + ((st done).args.to - done.loop-r.at)) done.loop-r.invariant.2
 
   short : length (take (length done.loop-r.out - done.loop-r.n) (drop done.loop-r.n done.loop-r.out)) ≡ (st done).args.to - done.loop-r.at
   short = lent_length (front done) (st done).args.out.now done.loop-r.n done.loop-r.invariant.2 done.loop-r.out done.loop-r.invariant.3 (length done.loop-r.out) ((st done).args.to - done.loop-r.at) rest (omega (arith, long done))
 
 mul-fill : tie.Need-offset_bounds-out-n-2 invariant-loop decreases-loop
-mul-fill c = omega (arith, within (done c), (st (done c)).good)
+mul-fill c = omega (arith, within (done c), (st (done c)).well_formed)
 
 sub-fill : tie.Need-slice_bounds-fill-count invariant-loop decreases-loop
 sub-fill c = omega (arith, within (done c), long (done c))
@@ -185,10 +185,10 @@ part-fill-end : tie.Need-slice_bounds-fill-end invariant-loop decreases-loop
 part-fill-end c = search rules
 
 fill-requires : tie.Need-fill-requires invariant-loop decreases-loop
-fill-requires c κs = let l = c.before in omega (arith, short l, (at-stop l).since, (st (done l)).pre.1.0.1, (st (done l)).pre.0.few, others-within l)
+fill-requires c κs = let l = c.before in omega (arith, short l, (at-stop l).since, (st (done l)).requires.1.0.1, (st (done l)).requires.0.few, others-within l)
   where
     others-within : (l : tie.After-loop-r invariant-loop decreases-loop) → (done l).loop-r.at ≤ (st (done l)).args.to
-    others-within l = there-to (col (st (done l))) (st (done l)).args.from (st (done l)).args.to (st (done l)).args.stop (done l).loop-r.at (st (done l)).pre.1.0.0 (at-stop l)
+    others-within l = there-to (col (st (done l))) (st (done l)).args.from (st (done l)).args.to (st (done l)).args.stop (done l).loop-r.at (st (done l)).requires.1.0.0 (at-stop l)
 
 -- all are written
 module _ (c : tie.After-fill invariant-loop decreases-loop) where
@@ -202,11 +202,11 @@ module _ (c : tie.After-fill invariant-loop decreases-loop) where
       → put_mid d.loop-r.n (length d.loop-r.out - d.loop-r.n) d.loop-r.out w ≡ below (col (st d)) (st d).args.from (st d).args.to
   final w h =
       lent_back (front d) (st d).args.out.now d.loop-r.n d.loop-r.invariant.2 d.loop-r.out d.loop-r.invariant.3 (length d.loop-r.out) ((st d).args.to - d.loop-r.at) (rest left) (omega (arith, long d)) w (stepped d.loop-r.at 1) h
-      ∙ ap₂ (λ x y. x ++ y) (others-end (col (st d)) (st d).args.count (st d).pre.0 (st d).args.from (st d).args.to (st d).pre.1.0.0 (st d).args.begin (st d).args.stop (st d).pre.1.0.2 d.loop-r.at (at-stop left)) (drop_of_length-le (st d).args.out.now {i = length d.loop-r.out} (omega (arith, long d)))
+      ∙ ap₂ (λ x y. x ++ y) (others-end (col (st d)) (st d).args.count (st d).requires.0 (st d).args.from (st d).args.to (st d).requires.1.0.0 (st d).args.begin (st d).args.stop (st d).requires.1.0.2 d.loop-r.at (at-stop left)) (drop_of_length-le (st d).args.out.now {i = length d.loop-r.out} (omega (arith, long d)))
       ∙ append-nil _
 
 same_length : tie.Need-shape_of-out invariant-loop decreases-loop
-same_length c = let f = c.before.before in ap length (final f _ f.fill.ensures) ∙ sym (st (d f)).pre.1.1
+same_length c = let f = c.before.before in ap length (final f _ f.fill.ensures) ∙ sym (st (d f)).requires.1.1
 
 returns : tie.Need-returns invariant-loop decreases-loop
 returns c = let f = c.before.before in final f _ f.fill.ensures

@@ -17,11 +17,11 @@ abbrev decreases-loop : tie.decreases-loop-i
 decreases-loop bytes at n value₀ i₀ value i = i
 
 -- in a turn at most seven bytes were read, and the byte that is read next is one
-seven : (c : tie.In-loop-i invariant-loop decreases-loop) → c.before.loop-i.value < 256 ^ 7
-seven c = omega (arith, c.before.loop-i.invariant.2, pow-up (c.before.before.args.n - c.before.loop-i.i) 7 (omega arith))
+seven : (c : tie.In-loop-i invariant-loop decreases-loop) → c.loop-i.value < 256 ^ 7
+seven c = omega (arith, c.loop-i.invariant.2, pow-up (c.args.n - c.loop-i.i) 7 (omega arith))
 
-byte : (c : tie.After-shared_slice_known-1 invariant-loop decreases-loop) → get_or c.before.before.before.args.bytes.now (c.before.before.before.args.at + (c.before.before.loop-i.i - 1)) 0 < 256
-byte c = omega (arith, c.shared_slice_known-1.given (c.before.before.before.args.at + (c.before.before.loop-i.i - 1)))
+byte : (c : tie.After-shared_slice_known-1 invariant-loop decreases-loop) → get_or c.args.bytes.now (c.args.at + (c.loop-i.i - 1)) 0 < 256
+byte c = omega (arith, c.shared_slice_known-1.given (c.args.at + (c.loop-i.i - 1)))
 
 loop-holds : tie.Need-loop-i-init invariant-loop decreases-loop
 loop-holds c =
@@ -51,8 +51,8 @@ loop-less c = search rules
 
 loop-again : tie.Need-loop-i-preserved invariant-loop decreases-loop
 loop-again c =
-    let l = c.before.before.loop-i in
-    let a = c.before.before.before.args in
+    let l = c.loop-i in
+    let a = c.args in
     let next : a.at + l.i ≡ suc (a.at + (l.i - 1)) = omega arith in
     let more : a.n - (l.i - 1) ≡ suc (a.n - l.i) = omega arith in
     let was = rw next at l.invariant.1 in (
@@ -63,9 +63,9 @@ loop-again c =
 
 returns : tie.Need-returns invariant-loop decreases-loop
 returns c =
-    let a = c.before.before.args in
-    let z : c.before.loop-i.i ≡ 0 = omega arith in
-    (rw (z, add-zero a.at, sub-zero a.n) at c.before.loop-i.invariant.1, rw (z, sub-zero a.n) at c.before.loop-i.invariant.2)
+    let a = c.args in
+    let z : c.loop-i.i ≡ 0 = omega arith in
+    (rw (z, add-zero a.at, sub-zero a.n) at c.loop-i.invariant.1, rw (z, sub-zero a.n) at c.loop-i.invariant.2)
 
 pub read_le_spec : {M : Type 1} → statement M
 read_le_spec = tie.close (tie.spec invariant-loop decreases-loop loop-holds sub-i mul-value add-value shared-slice-read-value cast-value add-value-2 loop-less loop-again returns)

@@ -26,26 +26,26 @@ abbrev decreases-loop : tie.decreases-loop-i
 decreases-loop bytes n starts₀ ends₀ steps₀ total₀ i₀ starts ends steps total i = n - i
 
 -- the lengths are as they were
-long-starts : (c : tie.At-loop-i invariant-loop decreases-loop) → length c.loop-i.starts ≡ length c.before.before.before.args.starts.now
+long-starts : (c : tie.At-loop-i invariant-loop decreases-loop) → length c.loop-i.starts ≡ length c.args.starts.now
 long-starts c = ap length c.loop-i.invariant.3 ∙ simp length-sets
 
-long-ends : (c : tie.At-loop-i invariant-loop decreases-loop) → length c.loop-i.ends ≡ length c.before.before.before.args.ends.now
+long-ends : (c : tie.At-loop-i invariant-loop decreases-loop) → length c.loop-i.ends ≡ length c.args.ends.now
 long-ends c = ap length c.loop-i.invariant.4 ∙ simp length-sets
 
-long-steps : (c : tie.At-loop-i invariant-loop decreases-loop) → length c.loop-i.steps ≡ length c.before.before.before.args.steps.now
+long-steps : (c : tie.At-loop-i invariant-loop decreases-loop) → length c.loop-i.steps ≡ length c.args.steps.now
 long-steps c = ap length c.loop-i.invariant.5 ∙ simp length-sets
 
 -- the next total
 next : (c : tie.After-run_in-run invariant-loop decreases-loop) →
-    let at-slice-known = c.before.before.before in let at-start = at-slice-known.before.before in c.before.before.loop-i.total + c.run_in-run.result.count ≡ total_in at-start.args.bytes.now (c.before.before.loop-i.i + 1)
+    let at-slice-known = c.before.before.before in let at-start = at-slice-known.before.before in c.loop-i.total + c.run_in-run.result.count ≡ total_in at-start.args.bytes.now (c.loop-i.i + 1)
 next c =
     let at-slice-known = c.before.before.before in
     let at-start = at-slice-known.before.before in
-    rw (c.before.before.loop-i.invariant.1, c.run_in-run.ensures.1.1) (total-more at-start.args.bytes.now c.before.before.loop-i.i)
+    rw (c.loop-i.invariant.1, c.run_in-run.ensures.1.1) (total-more at-start.args.bytes.now c.loop-i.i)
 
 loop-holds : tie.Need-loop-i-init invariant-loop decreases-loop
 unfolding joined
-loop-holds c = (omega arith, total-none c.before.before.args.bytes.now, omega arith, refl, refl, refl)
+loop-holds c = (omega arith, total-none c.args.bytes.now, omega arith, refl, refl, refl)
 
 run-in-requires : tie.Need-run_in-run-requires invariant-loop decreases-loop
 run-in-requires c κs = search rules
@@ -97,14 +97,14 @@ loop-again c =
     let a = c.before.before.before in
     let at-slice-known = a.before.before.before in
     let s = at-slice-known.before.before in
-    let l = a.before.before.loop-i in
+    let l = a.loop-i in
     let bytes = s.args.bytes.now in (
       omega arith,
       next a,
       omega (arith, l.invariant.2),
-      each_more (start_in bytes) l.starts s.args.starts.now l.i _ l.invariant.3 (back w64 a.run_in-run.result.start c.before.before.struct_told-1.given.0.1 ∙ a.run_in-run.ensures.0),
+      each_more (start_in bytes) l.starts s.args.starts.now l.i _ l.invariant.3 (back w64 a.run_in-run.result.start c.struct_told-1.given.0.1 ∙ a.run_in-run.ensures.0),
       each_more (λ r. total_in bytes (suc r)) l.ends s.args.ends.now l.i _ l.invariant.4 (next a ∙ ap (total_in bytes) (add-one l.i)),
-      each_more (step_in bytes) l.steps s.args.steps.now l.i _ l.invariant.5 (back w16 a.run_in-run.result.step c.before.struct_told-in-loop-i-1.given.1.0.1 ∙ a.run_in-run.ensures.1.0),
+      each_more (step_in bytes) l.steps s.args.steps.now l.i _ l.invariant.5 (back w16 a.run_in-run.result.step c.struct_told-in-loop-i-1.given.1.0.1 ∙ a.run_in-run.ensures.1.0),
     )
 
 same_length : tie.Need-shape_of-starts invariant-loop decreases-loop
@@ -120,7 +120,7 @@ returns : tie.Need-returns invariant-loop decreases-loop
 returns c =
     let shr_slice_at = c.before.before.before in
     let at-start = shr_slice_at.before in
-    let l = c.before.loop-i in
+    let l = c.loop-i in
     let e : l.i ≡ at-start.args.n = omega arith in
     (rw e at l.invariant.3, (rw e at l.invariant.4, rw e at l.invariant.5))
 

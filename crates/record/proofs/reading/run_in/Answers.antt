@@ -8,9 +8,8 @@ use Rattle.record.proofs.reading.run_in.Goals as goal
 
 pub returns : goal.returns
 returns c =
-    let step = c.before in
-    let start = step.before.before in record {
-  start_value = back w64 start.signed64.result start.signed64.type_inv ∙ start.signed64.ensures ∙ ap (to_signed 8) start.read_le.ensures.value;
-  step_value = back w16 step.signed16.result step.signed16.type_inv ∙ step.signed16.ensures ∙ ap (to_signed 2) step.read_le-2.ensures.value;
+    record {
+  start_value = back w64 c.signed64.result c.signed64.type_inv ∙ c.signed64.ensures ∙ ap (to_signed 8) c.read_le.ensures.value;
+  step_value = back w16 c.signed16.result c.signed16.type_inv ∙ c.signed16.ensures ∙ ap (to_signed 2) c.read_le-2.ensures.value;
   count_value = c.read_le-3.ensures.value;
 }

@@ -29,12 +29,12 @@ decreases-loop starts ends steps out₀ last₀ i₀ out last i = length ends - 
 known : (s : tie.Start invariant-loop decreases-loop) → Sound (column_now s.args.starts s.args.ends s.args.steps)
 known s = sound-parts _ s.requires.0
 
-long : (c : tie.At-loop-i invariant-loop decreases-loop) → length c.loop-i.out ≡ length c.before.before.before.args.out.now
+long : (c : tie.At-loop-i invariant-loop decreases-loop) → length c.loop-i.out ≡ length c.args.out.now
 long c = ap length c.loop-i.invariant.2 ∙ simp length-sets
 
 loop-holds : tie.Need-loop-i-init invariant-loop decreases-loop
 unfolding joined
-loop-holds c = (omega arith, before-zero c.before.before.args.ends.now {r = 0} refl, refl)
+loop-holds c = (omega arith, before-zero c.args.ends.now {r = 0} refl, refl)
 
 mul-end : tie.Need-offset_bounds-ends-i invariant-loop decreases-loop
 mul-end c = search rules
@@ -89,7 +89,7 @@ write-run-requires c κs =
     let at-slice2 = c.before.before.before in
     let in-loop = at-slice2.before in
     let l = in-loop.before in
-    omega (arith, long l, l.before.before.before.requires.1, in-loop.loop-i-test.true)
+    omega (arith, long l, l.requires.1, in-loop.loop-i-test.true)
 
 add-i : tie.Need-overflow_add-i-in-loop-i invariant-loop decreases-loop
 add-i c = search rules
@@ -105,8 +105,8 @@ loop-again c =
     let s = l.before.before.before in (
       omega arith,
       before-next s.args.ends.now l.loop-i.i,
-      runs-stored (column_now s.args.starts s.args.ends s.args.steps) l.loop-i.i l.loop-i.last _ _ l.loop-i.out s.args.out.now _ l.loop-i.invariant.1 (back w64 (get_or s.args.starts.now l.loop-i.i (pos 0)) r.before.before.write_run-arg-in-loop-i-1.given)
-          (back w16 (get_or s.args.steps.now l.loop-i.i (pos 0)) r.before.write_run-arg-in-loop-i-2-1.given) l.loop-i.invariant.2 r.write_run.ensures,
+      runs-stored (column_now s.args.starts s.args.ends s.args.steps) l.loop-i.i l.loop-i.last _ _ l.loop-i.out s.args.out.now _ l.loop-i.invariant.1 (back w64 (get_or s.args.starts.now l.loop-i.i (pos 0)) r.write_run-arg-in-loop-i-1.given)
+          (back w16 (get_or s.args.steps.now l.loop-i.i (pos 0)) r.write_run-arg-in-loop-i-2-1.given) l.loop-i.invariant.2 r.write_run.ensures,
     )
 
 same_length : tie.Need-shape_of-out invariant-loop decreases-loop
@@ -116,8 +116,8 @@ returns : tie.Need-returns invariant-loop decreases-loop
 returns c =
     let shr_slice_at = c.before.before.before in
     let at-start = shr_slice_at.before in
-    let e : c.before.loop-i.i ≡ length at-start.args.ends.now = omega arith in
-    rw e at c.before.loop-i.invariant.2
+    let e : c.loop-i.i ≡ length at-start.args.ends.now = omega arith in
+    rw e at c.loop-i.invariant.2
 
 pub write_runs_spec : {M : Type 1} → statement M
 write_runs_spec = tie.close (tie.spec invariant-loop decreases-loop loop-holds mul-end shared-slice-read-end mul-write-run add-write-run mul-write-run-2 shared-slice-copy-out-write-run mul-write-run-3 shared-slice-copy-out-write-run-2 sub-write-run cast-write-run write-run-requires add-i loop-less loop-again same_length returns)

@@ -14,15 +14,15 @@ use borrow.Author.Rules.{rules}
 use Rattle.recorded.proofs.placing.climb.Statement.{statement}
 use Rattle.recorded.proofs.placing.climb.Tie as tie
 
-of-start : (c : tie.After-bias-from) → c.bias-from.result ≡ key half64 c.before.args.start
-of-start c = c.bias-from.ensures ∙ ap (key half64) (to_z-of_z c.before.ranges.start)
+of-start : (c : tie.After-bias-from) → c.bias-from.result ≡ key half64 c.args.start
+of-start c = c.bias-from.ensures ∙ ap (key half64) (to_z-of_z c.ranges.start)
 
 -- at the floor's test: not below 0, and its first element
 module _ (c : tie.Else-from-lt9223372036854775808) where
-  above : half64 ≤ key half64 c.before.before.args.start
+  above : half64 ≤ key half64 c.args.start
   above = subst (λ x. half64 ≤ x) (of-start c.before) c.if-from-lt9223372036854775808.false
 
-  first-is : c.before.bias-from.result - 9223372036854775808 ≡ first_at c.before.before.args.start
+  first-is : c.bias-from.result - 9223372036854775808 ≡ first_at c.args.start
   first-is = ap (λ x. x - 9223372036854775808) (of-start c.before)
 
 -- whether it goes up
@@ -106,7 +106,7 @@ returns-5 c =
     ap (λ x. x + 1) (last z)
     ∙ climb-on s.args.start s.args.step s.args.more s.args.floor s.args.count
     (floor-test s.args.start s.args.floor (above e) ∙ le-ltb (first_at s.args.start) s.args.floor (subst (λ x. s.args.floor ≤ x) (first-is e) u.before.if-first-floor.false))
-    (sym (of-up u) ∙ not-false u.goes_up.result z.before.if-not-goes_up.false-raw) (subst (λ x. x < s.args.count) (last z) c.if-count-last.false)
+    (sym (of-up u) ∙ not-false u.goes_up.result z.if-not-goes_up.false-raw) (subst (λ x. x < s.args.count) (last z) c.if-count-last.false)
 
 pub climb_spec : {M : Type 1} → statement M
 climb_spec = tie.close (tie.spec bias-requires returns returns-2 goes-up-requires returns-3 size16-requires mul-last add-last returns-4 add-result returns-5)

@@ -38,8 +38,8 @@ enum_told c = search rules
 
 -- the seek
 module _ (c : tie.After-seek-moved) where
-  abbrev at-scan : tie.In-Ready-2
-  at-scan = c.before.before
+  abbrev at-scan : tie.In-Ready
+  at-scan = c.before
 
   abbrev at_new : tie.After-new
   at_new = at-scan.before.before
@@ -49,26 +49,26 @@ module _ (c : tie.After-seek-moved) where
 
 returns : tie.Need-returns-in-Refused
 returns c =
-    let w = c.before in
-    let n = w.before.before in
+    let w = c in
+    let n = w.before in
     let s = n.before.before in
     new-not (source_of (col s)) (ok s) _ _ n.new.ensures w.in-Refused.is
 
 returns-2 : tie.Need-returns-in-Refused-answer
 returns-2 c =
-    let a = c.before in
-    let k = a.before.before in
+    let a = c in
+    let k = a.before in
     told-flat (source_of (col (st k))) (ok (st k)) _ _ (at_new k).new.ensures (at-scan k).in-Ready.is _ k.seek-moved.result k.seek-moved.ensures _ (ap says_answer a.in-Refused-answer.is)
 
 returns-3 : tie.Need-returns-in-Value
 returns-3 c =
-    let a = c.before in
-    let k = a.before.before in
+    let a = c in
+    let k = a.before in
     told-up (source_of (col (st k))) (ok (st k)) _ _ (at_new k).new.ensures (at-scan k).in-Ready.is _ k.seek-moved.result k.seek-moved.ensures _ (ap says_answer a.in-Value.is)
 
 returns-4 : tie.Need-returns-in-None
 returns-4 c =
-    let k = c.before.before in
+    let k = c.before in
     told-up (source_of (col (st k))) (ok (st k)) _ _ (at_new k).new.ensures (at-scan k).in-Ready.is _ k.seek-moved.result k.seek-moved.ensures _ (ap says_answer c.in-None.is)
 
 pub ordered_spec : {M : Type 1} → statement M

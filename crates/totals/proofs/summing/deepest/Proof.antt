@@ -7,8 +7,8 @@ use borrow.Author.Rules.{rules}
 use Rattle.totals.proofs.summing.deepest.Statement.{statement}
 use Rattle.totals.proofs.summing.deepest.Tie as tie
 
-of-sign : (c : tie.After-is_down) → c.is_down.result ≡ down c.before.args.step
-of-sign c = c.is_down.ensures ∙ ap down (to_z-of_z c.before.ranges.step)
+of-sign : (c : tie.After-is_down) → c.is_down.result ≡ down c.args.step
+of-sign c = c.is_down.ensures ∙ ap down (to_z-of_z c.ranges.step)
 
 is-down-requires : tie.Need-is_down-requires
 is-down-requires c κs = search rules

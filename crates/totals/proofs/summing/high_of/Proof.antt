@@ -14,10 +14,10 @@ abbrev start : tie.After-units → tie.Start
 start c = c.before.before.before
 
 from : (c : tie.After-units) → (start c).args.count ≤ c.units.result
-from c = let s = start c in omega (arith, c.units.ensures, units-from s.args.s.top s.args.s.mid s.args.s.low s.args.count s.pre.1)
+from c = let s = start c in omega (arith, c.units.ensures, units-from s.args.s.top s.args.s.mid s.args.s.low s.args.count s.requires.1)
 
 to : (c : tie.After-units) → c.units.result - (start c).args.count < 8589934592
-to c = let s = start c in omega (arith, c.units.ensures, units-to s.args.s.top s.args.s.mid s.args.s.low s.args.count s.pre.1)
+to c = let s = start c in omega (arith, c.units.ensures, units-to s.args.s.top s.args.s.mid s.args.s.low s.args.count s.requires.1)
 
 add-mid : tie.Need-overflow_add-mid
 add-mid c = search rules
@@ -39,9 +39,9 @@ unbias-requires c κs = search rules
 
 returns : tie.Need-returns
 returns c = let s = start c.before in
-    key_back ((c.before.units.result - s.args.count) * 2147483648 + (s.args.s.mid + s.args.s.low / 4294967296) % 2147483648) c.unbias.result c.unbias.ensures (omega (arith, to c.before))
-    ∙ ap (λ u. unkey half64 ((u - s.args.count) * 2147483648 + (s.args.s.mid + s.args.s.low / 4294967296) % 2147483648)) c.before.units.ensures
-    ∙ units-high s.args.s.top s.args.s.mid s.args.s.low s.args.count s.pre.1
+    key_back ((c.units.result - s.args.count) * 2147483648 + (s.args.s.mid + s.args.s.low / 4294967296) % 2147483648) c.unbias.result c.unbias.ensures (omega (arith, to c.before))
+    ∙ ap (λ u. unkey half64 ((u - s.args.count) * 2147483648 + (s.args.s.mid + s.args.s.low / 4294967296) % 2147483648)) c.units.ensures
+    ∙ units-high s.args.s.top s.args.s.mid s.args.s.low s.args.count s.requires.1
 
 pub high_of_spec : {M : Type 1} → statement M
 high_of_spec = tie.close (tie.spec add-mid units-requires sub-unbias mul-unbias add-unbias unbias-requires returns)

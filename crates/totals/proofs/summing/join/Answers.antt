@@ -6,7 +6,4 @@ use Rattle.totals.proofs.summing.join.Goals as goal
 
 pub returns : goal.returns
 returns c =
-    let k5 = c.before.before.before in
-    let k2 = k5.before.before.before in
-    let s = k2.before.before in
-    λ xs ys m n h k. holds-join _ s.args.a s.args.b xs ys m n h k refl refl refl c.smaller-least.ensures c.larger-greatest.ensures
+    λ xs ys m n h k. holds-join _ c.args.a c.args.b xs ys m n h k refl refl refl c.smaller-least.ensures c.larger-greatest.ensures

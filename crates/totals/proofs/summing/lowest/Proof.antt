@@ -11,17 +11,17 @@ use Rattle.totals.proofs.summing.lowest.Statement.{statement}
 use Rattle.totals.proofs.summing.lowest.Tie as tie
 
 -- what the calls gave, at the numbers themselves
-of-start : (c : tie.After-bias-from) → c.bias-from.result ≡ key half64 c.before.args.start
-of-start c = c.bias-from.ensures ∙ ap (key half64) (to_z-of_z c.before.ranges.start)
+of-start : (c : tie.After-bias-from) → c.bias-from.result ≡ key half64 c.args.start
+of-start c = c.bias-from.ensures ∙ ap (key half64) (to_z-of_z c.ranges.start)
 
-of-step : (c : tie.After-size16) → c.size16.result ≡ nat_abs c.before.before.args.step
-of-step c = c.size16.ensures ∙ ap nat_abs (to_z-of_z c.before.before.ranges.step)
+of-step : (c : tie.After-size16) → c.size16.result ≡ nat_abs c.args.step
+of-step c = c.size16.ensures ∙ ap nat_abs (to_z-of_z c.ranges.step)
 
 of-deep : (c : tie.After-deepest) → let s = c.before.before.before in c.deepest.result ≡ deepest_of s.args.step s.args.skip s.args.n
 of-deep c = let s = c.before.before.before in c.deepest.ensures ∙ ap (λ d. deepest_of d s.args.skip s.args.n) (to_z-of_z s.ranges.step)
 
-of-sign : (c : tie.After-is_down) → let d = c.before in c.is_down.result ≡ down d.before.before.before.args.step
-of-sign c = let d = c.before in c.is_down.ensures ∙ ap down (to_z-of_z d.before.before.before.ranges.step)
+of-sign : (c : tie.After-is_down) → let d = c.before in c.is_down.result ≡ down d.args.step
+of-sign c = let d = c.before in c.is_down.ensures ∙ ap down (to_z-of_z d.ranges.step)
 
 bias-requires : tie.Need-bias-from-requires
 bias-requires c κs = search rules
@@ -33,7 +33,7 @@ deepest-requires : tie.Need-deepest-requires
 deepest-requires c κs = search rules
 
 mul-way : tie.Need-overflow_mul-way
-mul-way c = record { fits = way-fits _ _ _ _ c.before.before.before.ranges.start.sfits c.before.before.before.requires.0 c.before.before.before.requires.2 _ _ _ (of-start c.before.before) (of-step c.before) (of-deep c) c.before.before.before.ranges.step.sfits c.before.before.before.requires.1 }
+mul-way c = record { fits = way-fits _ _ _ _ c.ranges.start.sfits c.requires.0 c.requires.2 _ _ _ (of-start c.before.before) (of-step c.before) (of-deep c) c.ranges.step.sfits c.requires.1 }
 
 is-down-requires : tie.Need-is_down-requires
 is-down-requires c κs = search rules

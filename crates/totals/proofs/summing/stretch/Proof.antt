@@ -15,8 +15,8 @@ of_low c =
     let s = c.before in
     c.lowest.ensures ∙ ap₂ (λ (v d : ℤ). lowest_key v d s.args.skip s.args.n) (to_z-of_z s.ranges.start) (to_z-of_z s.ranges.step)
 
-of-step : (c : tie.After-size16) → c.size16.result ≡ nat_abs c.before.before.args.step
-of-step c = c.size16.ensures ∙ ap nat_abs (to_z-of_z c.before.before.ranges.step)
+of-step : (c : tie.After-size16) → c.size16.result ≡ nat_abs c.args.step
+of-step c = c.size16.ensures ∙ ap nat_abs (to_z-of_z c.ranges.step)
 
 lowest-requires : tie.Need-lowest-requires
 lowest-requires c κs = search rules

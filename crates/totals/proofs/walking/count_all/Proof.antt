@@ -28,13 +28,13 @@ shared-slice-read-end : tie.Need-bounds-to-k invariant-loop decreases-loop
 shared-slice-read-end c = search rules
 
 same_length : tie.Need-shape_of-counts-then-size-end invariant-loop decreases-loop
-same_length c = counting-long _ _ _ _ _ _ _ c.before.before.before.loop-k.invariant
+same_length c = counting-long _ _ _ _ _ _ _ c.loop-k.invariant
 
 returns : tie.Need-returns-then-size-end invariant-loop decreases-loop
 returns c =
     let l = c.before.before.before in
     let s = start l in
-    counting-beyond _ s.args.from.now s.args.to.now l.loop-k.k c.before.before.loop-k-test.true c.if-size-end.true
+    counting-beyond _ s.args.from.now s.args.to.now l.loop-k.k c.loop-k-test.true c.if-size-end.true
 
 mul-count-of : tie.Need-offset_bounds-from-k invariant-loop decreases-loop
 mul-count-of c = search rules
@@ -53,14 +53,14 @@ slice-write-counts c =
     let e = c.before.before in
     let l = e.before.before.before in
     let s = start l in
-    omega (arith, counting-long _ _ _ _ _ _ _ l.loop-k.invariant, s.pre.0.2)
+    omega (arith, counting-long _ _ _ _ _ _ _ l.loop-k.invariant, s.requires.0.2)
 
 add-sum : tie.Need-overflow_add-sum invariant-loop decreases-loop
 add-sum c =
     let e = c.before.before in
     let l = e.before.before.before in
     let s = start l in
-    omega (arith, l.loop-k.invariant.small, l.loop-k.invariant.to, s.pre.0.1, s.pre.1, c.count_of-n.ensures)
+    omega (arith, l.loop-k.invariant.small, l.loop-k.invariant.to, s.requires.0.1, s.requires.1, c.count_of-n.ensures)
 
 add-k : tie.Need-overflow_add-k invariant-loop decreases-loop
 add-k c = search rules
@@ -73,13 +73,13 @@ loop-again c =
     let e = c.before.before in
     let l = e.before.before.before in
     let s = start l in
-    counting_more _ _ _ _ _ _ _ l.loop-k.invariant s.pre.1 e.before.before.loop-k-test.true e.if-size-end.false _ c.count_of-n.ensures
+    counting_more _ _ _ _ _ _ _ l.loop-k.invariant s.requires.1 e.loop-k-test.true e.if-size-end.false _ c.count_of-n.ensures
 
 same-length-2 : tie.Need-shape_of-counts invariant-loop decreases-loop
-same-length-2 c = counting-long _ _ _ _ _ _ _ c.before.loop-k.invariant
+same-length-2 c = counting-long _ _ _ _ _ _ _ c.loop-k.invariant
 
 returns-2 : tie.Need-returns invariant-loop decreases-loop
-returns-2 c = counting-done _ _ _ _ _ _ _ c.before.loop-k.invariant c.loop-k-test.false
+returns-2 c = counting-done _ _ _ _ _ _ _ c.loop-k.invariant c.loop-k-test.false
 
 pub count_all_spec : {M : Type 1} → statement M
 count_all_spec = tie.close (tie.spec invariant-loop decreases-loop loop-holds mul-end shared-slice-read-end same_length returns mul-count-of shared-slice-read-count-of count-of-requires mul-counts slice-write-counts add-sum add-k loop-less loop-again same-length-2 returns-2)

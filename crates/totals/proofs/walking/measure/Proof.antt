@@ -42,8 +42,8 @@ col s = column_now s.args.starts s.args.ends s.args.steps
 small : (s : tie.Start invariant-loop decreases-loop) → size_of (col s) ≤ 4294967295
 small s = size-most _ (sound-parts _ s.requires.0)
 
-few-in : (i : tie.In-loop-k invariant-loop decreases-loop) → i.before.loop-k.k < 256
-few-in i = lt_of_lt_of_le i.loop-k-test.true (start i.before).pre.1.0.few
+few-in : (i : tie.In-loop-k invariant-loop decreases-loop) → i.loop-k.k < 256
+few-in i = lt_of_lt_of_le i.loop-k-test.true (start i.before).requires.1.0.few
 
 -- the window's elements are counted, and lie inside
 module _ (c : tie.After-count_of-n invariant-loop decreases-loop) where
@@ -69,7 +69,7 @@ module _ (c : tie.After-count_of-n invariant-loop decreases-loop) where
   counted = c.count_of-n.ensures
 
   in_size : get_or st.args.to.now (turn c).loop-k.k 0 ≤ size_of (col st)
-  in_size = st.pre.1.0.inside (turn c).loop-k.k c.before.before.before.loop-k-test.true
+  in_size = st.requires.1.0.inside (turn c).loop-k.k c.loop-k-test.true
 
 summed : (c : tie.After-walk-sums invariant-loop decreases-loop) → let s = start (turn c.before) in
     Holds c.walk-sums.result (elements_at (sequence_of (col s)) s.args.from.now s.args.to.now (turn c.before).loop-k.k) 4096
@@ -91,13 +91,13 @@ mul-count-of : tie.Need-offset_bounds-to-k invariant-loop decreases-loop
 mul-count-of c = place-fits (few-in c.before)
 
 shared-slice-read-count-of : tie.Need-bounds-to-k invariant-loop decreases-loop
-shared-slice-read-count-of c = omega (arith, (start c.before.before.before).pre.1.0.paired)
+shared-slice-read-count-of c = omega (arith, (start c.before.before.before).requires.1.0.paired)
 
 count-of-requires : tie.Need-count_of-n-requires invariant-loop decreases-loop
 count-of-requires c κs = search rules
 
 walk-requires : tie.Need-walk-sums-requires invariant-loop decreases-loop
-walk-requires c κs = ((start (turn c)).pre.0, omega (arith, counted c, in_size c))
+walk-requires c κs = ((start (turn c)).requires.0, omega (arith, counted c, in_size c))
 
 unbias-requires : tie.Need-unbias-requires invariant-loop decreases-loop
 unbias-requires c κs = search rules
@@ -106,7 +106,7 @@ mul-greatests : tie.Need-offset_bounds-leasts-k invariant-loop decreases-loop
 mul-greatests c = search rules
 
 slice-set-from-greatests : tie.Need-bounds-leasts-k invariant-loop decreases-loop
-slice-set-from-greatests c = let w = c.before in omega (arith, few w.before, least-long _ _ _ _ _ _ _ _ _ _ _ _ _ (turn w.before).loop-k.invariant, (start (turn w.before)).pre.1.1.0)
+slice-set-from-greatests c = let w = c.before in omega (arith, few w.before, least-long _ _ _ _ _ _ _ _ _ _ _ _ _ (turn w.before).loop-k.invariant, (start (turn w.before)).requires.1.1.0)
 
 unbias-requires-2 : tie.Need-unbias-requires-in-loop-k invariant-loop decreases-loop
 unbias-requires-2 c κs = search rules
@@ -115,7 +115,7 @@ mul-highs : tie.Need-offset_bounds-greatests-k invariant-loop decreases-loop
 mul-highs c = search rules
 
 slice-set-from-highs : tie.Need-bounds-greatests-k invariant-loop decreases-loop
-slice-set-from-highs c = let w = c.before.before in omega (arith, few w.before, greatest-long _ _ _ _ _ _ _ _ _ _ _ _ _ (turn w.before).loop-k.invariant, (start (turn w.before)).pre.1.1.1)
+slice-set-from-highs c = let w = c.before.before in omega (arith, few w.before, greatest-long _ _ _ _ _ _ _ _ _ _ _ _ _ (turn w.before).loop-k.invariant, (start (turn w.before)).requires.1.1.1)
 
 high-of-requires : tie.Need-high_of-requires invariant-loop decreases-loop
 high-of-requires c κs = let w = c.before.before in
@@ -126,7 +126,7 @@ mul-t15 : tie.Need-offset_bounds-highs-k invariant-loop decreases-loop
 mul-t15 c = search rules
 
 slice-set-from-highs-2 : tie.Need-bounds-highs-k invariant-loop decreases-loop
-slice-set-from-highs-2 c = let w = c.before.before.before in omega (arith, few w.before, high-long _ _ _ _ _ _ _ _ _ _ _ _ _ (turn w.before).loop-k.invariant, (start (turn w.before)).pre.1.1.2)
+slice-set-from-highs-2 c = let w = c.before.before.before in omega (arith, few w.before, high-long _ _ _ _ _ _ _ _ _ _ _ _ _ (turn w.before).loop-k.invariant, (start (turn w.before)).requires.1.1.2)
 
 low-of-requires : tie.Need-low_of-requires invariant-loop decreases-loop
 low-of-requires c κs = search rules
@@ -135,7 +135,7 @@ mul-lows : tie.Need-offset_bounds-lows-k invariant-loop decreases-loop
 mul-lows c = let h = c.before.before in place-fits (few h.before.before.before)
 
 slice-write-lows : tie.Need-bounds-lows-k invariant-loop decreases-loop
-slice-write-lows c = let h = c.before.before in let w = h.before.before in omega (arith, few w.before, low-long _ _ _ _ _ _ _ _ _ _ _ _ _ (turn w.before).loop-k.invariant, (start (turn w.before)).pre.1.1.3)
+slice-write-lows c = let h = c.before.before in let w = h.before.before in omega (arith, few w.before, low-long _ _ _ _ _ _ _ _ _ _ _ _ _ (turn w.before).loop-k.invariant, (start (turn w.before)).requires.1.1.3)
 
 join-requires : tie.Need-join-all-requires invariant-loop decreases-loop
 join-requires c κs = let h = c.before.before in
@@ -155,25 +155,25 @@ loop-again c = let h = c.before.before in
     let w = u.before.before in
     let d = w.before in
     let l = turn d in
-    measuring-more (sq d) (ss d) (es d) _ _ _ _ _ _ _ _ _ _ l.loop-k.invariant d.before.before.before.loop-k-test.true _ _ _ _ _ _
-    (one-least (sq d) (ss d) (es d) (at d) _ (summed w) _ u.before.unbias.ensures) (one-greatest (sq d) (ss d) (es d) (at d) _ (summed w) _ u.unbias-in-loop-k.ensures)
-    (back w64 h.high_of.result h.high_of.type_inv ∙ h.high_of.ensures ∙ one-high (sq d) (ss d) (es d) (at d) _ (summed w) _ (counted d)) (c.before.low_of.ensures ∙ one-low (sq d) (ss d) (es d) (at d) _ (summed w) _ (counted d))
+    measuring-more (sq d) (ss d) (es d) _ _ _ _ _ _ _ _ _ _ l.loop-k.invariant d.loop-k-test.true _ _ _ _ _ _
+    (one-least (sq d) (ss d) (es d) (at d) _ (summed w) _ u.unbias.ensures) (one-greatest (sq d) (ss d) (es d) (at d) _ (summed w) _ u.unbias-in-loop-k.ensures)
+    (back w64 h.high_of.result h.high_of.type_inv ∙ h.high_of.ensures ∙ one-high (sq d) (ss d) (es d) (at d) _ (summed w) _ (counted d)) (c.low_of.ensures ∙ one-low (sq d) (ss d) (es d) (at d) _ (summed w) _ (counted d))
     (summed w) c.join-all.ensures
 
 same_length : tie.Need-shape_of-leasts invariant-loop decreases-loop
-same_length c = least-long _ _ _ _ _ _ _ _ _ _ _ _ _ c.before.loop-k.invariant
+same_length c = least-long _ _ _ _ _ _ _ _ _ _ _ _ _ c.loop-k.invariant
 
 same-length-2 : tie.Need-shape_of-greatests invariant-loop decreases-loop
-same-length-2 c = greatest-long _ _ _ _ _ _ _ _ _ _ _ _ _ c.before.loop-k.invariant
+same-length-2 c = greatest-long _ _ _ _ _ _ _ _ _ _ _ _ _ c.loop-k.invariant
 
 same-length-3 : tie.Need-shape_of-highs invariant-loop decreases-loop
-same-length-3 c = high-long _ _ _ _ _ _ _ _ _ _ _ _ _ c.before.loop-k.invariant
+same-length-3 c = high-long _ _ _ _ _ _ _ _ _ _ _ _ _ c.loop-k.invariant
 
 same-length-4 : tie.Need-shape_of-lows invariant-loop decreases-loop
-same-length-4 c = low-long _ _ _ _ _ _ _ _ _ _ _ _ _ c.before.loop-k.invariant
+same-length-4 c = low-long _ _ _ _ _ _ _ _ _ _ _ _ _ c.loop-k.invariant
 
 returns : tie.Need-returns invariant-loop decreases-loop
-returns c = measuring-done _ _ _ _ _ _ _ _ _ _ _ _ _ c.before.loop-k.invariant (omega (arith, c.before.loop-k.invariant.to)) (start c.before).pre.1.0.few
+returns c = measuring-done _ _ _ _ _ _ _ _ _ _ _ _ _ c.loop-k.invariant (omega (arith, c.loop-k.invariant.to)) (start c.before).requires.1.0.few
 
 pub measure_spec : {M : Type 1} → statement M
 measure_spec = tie.close (tie.spec invariant-loop decreases-loop nothing-requires loop-holds mul-start shared-slice-read-start mul-count-of shared-slice-read-count-of count-of-requires walk-requires unbias-requires mul-greatests slice-set-from-greatests unbias-requires-2 mul-highs slice-set-from-highs high-of-requires mul-t15 slice-set-from-highs-2 low-of-requires mul-lows slice-write-lows join-requires add-k loop-less loop-again same_length same-length-2 same-length-3 same-length-4 returns)

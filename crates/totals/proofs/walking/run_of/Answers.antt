@@ -9,12 +9,10 @@ pub loop-lo-init : goal.loop-lo-init
 loop-lo-init c = bracket-start _ _
 
 pub loop-lo-preserved-then-ends-mid : goal.loop-lo-preserved-then-ends-mid
-loop-lo-preserved-then-ends-mid c = let l = c.before.before.before in
-    bracket-up l.loop-lo.invariant _ l.requires. (omega arith) c.if-ends-mid.true
+loop-lo-preserved-then-ends-mid c =    bracket-up c.loop-lo.invariant _ c.requires (omega arith) c.if-ends-mid.true
 
 pub loop-lo-preserved : goal.loop-lo-preserved
-loop-lo-preserved c = let l = c.before.before.before in
-    bracket-down l.loop-lo.invariant _ (omega (arith, l.loop-lo.invariant.lo-le)) (omega arith) c.if-ends-mid.false
+loop-lo-preserved c =    bracket-down c.loop-lo.invariant _ (omega (arith, c.loop-lo.invariant.lo-le)) (omega arith) c.if-ends-mid.false
 
 pub returns : goal.returns
 returns c = bracket-met c.loop-lo.invariant (omega (arith, c.loop-lo.invariant.lo-le))

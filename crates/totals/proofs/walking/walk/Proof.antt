@@ -59,7 +59,7 @@ part c =
     walk-part (col (start l)) (sound (start l)) _ _ _ _ _ _ _ l.loop-at.invariant (within i) i.loop-at-test.true c.smaller-end.ensures
 
 add-to : tie.Need-overflow_add-to invariant-loop decreases-loop
-add-to c = record { fits = omega (arith, c.before.requires.1, small c.before, c.before.ranges.from.fits) }
+add-to c = record { fits = omega (arith, c.requires.1, small c.before, c.ranges.from.fits) }
 
 run-of-requires : tie.Need-run_of-run-requires invariant-loop decreases-loop
 run-of-requires c κs = (sound c.before).up
@@ -68,7 +68,7 @@ end-before-requires : tie.Need-end_before-requires invariant-loop decreases-loop
 end-before-requires c κs = rw c.run_of-run.ensures (run-le _ _)
 
 sub-skip : tie.Need-overflow_sub-skip invariant-loop decreases-loop
-sub-skip c = from_le _ _ _ _ c.before.run_of-run.ensures c.end_Before.ensures
+sub-skip c = from_le _ _ _ _ c.run_of-run.ensures c.end_before.ensures
 
 nothing-requires : tie.Need-nothing-sums-requires invariant-loop decreases-loop
 nothing-requires c κs = search rules
@@ -76,7 +76,7 @@ nothing-requires c κs = search rules
 loop-holds : tie.Need-loop-at-init invariant-loop decreases-loop
 loop-holds c = let e = c.before in
     let s = e.before.before.before in
-    walk_start _ _ _ _ _ _ (omega arith) e.before.run_of-run.ensures (rw e.end_Before.ensures) c.nothing-sums.ensures
+    walk_start _ _ _ _ _ _ (omega arith) e.run_of-run.ensures (rw e.end_before.ensures) c.nothing-sums.ensures
 
 mul-smaller : tie.Need-offset_bounds-ends-run invariant-loop decreases-loop
 mul-smaller c = omega (arith, there c, (sound (start c.before)).shaped.few)
@@ -107,7 +107,7 @@ stretch-requires c κs = let m = c.before.before in
     let l = m.before.before.before in
     let s = start l in
     let p = part m in
-    (omega (arith, p.after), p.short, rw (back w64 (get_or s.args.starts.now l.loop-at.run (pos 0)) c.before.stretch-arg-1.given, back w16 (get_or s.args.steps.now l.loop-at.run (pos 0)) c.stretch-arg-in-loop-at-1.given) (p.fits c.before.stretch-arg-1.given))
+    (omega (arith, p.after), p.short, rw (back w64 (get_or s.args.starts.now l.loop-at.run (pos 0)) c.stretch-arg-1.given, back w16 (get_or s.args.steps.now l.loop-at.run (pos 0)) c.stretch-arg-in-loop-at-1.given) (p.fits c.stretch-arg-1.given))
 
 join-requires : tie.Need-join-sums-requires invariant-loop decreases-loop
 join-requires c κs = let m = c.before.before.before in
@@ -131,10 +131,10 @@ loop-again c = let a = c.before.before in
     let m = a.before.before in
     let l = m.before.before.before in
     let s = start l in
-    (part m).next _ _ (rw (back w64 (get_or s.args.starts.now l.loop-at.run (pos 0)) a.before.stretch-arg-1.given, back w16 (get_or s.args.steps.now l.loop-at.run (pos 0)) a.stretch-arg-in-loop-at-1.given) at c.before.stretch.ensures) c.join-sums.ensures
+    (part m).next _ _ (rw (back w64 (get_or s.args.starts.now l.loop-at.run (pos 0)) a.stretch-arg-1.given, back w16 (get_or s.args.steps.now l.loop-at.run (pos 0)) a.stretch-arg-in-loop-at-1.given) at c.stretch.ensures) c.join-sums.ensures
 
 returns : tie.Need-returns invariant-loop decreases-loop
-returns c = walk-done (col (start c.before)) (sound (start c.before)) _ _ _ _ _ _ c.before.loop-at.invariant c.loop-at-test.false
+returns c = walk-done (col (start c.before)) (sound (start c.before)) _ _ _ _ _ _ c.loop-at.invariant c.loop-at-test.false
 
 pub walk_spec : {M : Type 1} → statement M
 walk_spec = tie.close (tie.spec invariant-loop decreases-loop add-to run-of-requires end-before-requires sub-skip nothing-requires loop-holds mul-smaller shared-slice-read-smaller smaller-requires mul-stretch shared-slice-copy-out-stretch mul-stretch-2 shared-slice-copy-out-stretch-2 sub-stretch stretch-requires join-requires add-run loop-less loop-again returns)

@@ -17,9 +17,9 @@ invariant-loop values out₀ k₀ out k = (k ≤ length values) × (out ≡ sets
 abbrev decreases-loop : tie.decreases-loop-k
 decreases-loop values out₀ k₀ out k = length values - k
 
-long : (c : tie.At-loop-k invariant-loop decreases-loop) → length c.loop-k.out ≡ length c.before.args.out.now
+long : (c : tie.At-loop-k invariant-loop decreases-loop) → length c.loop-k.out ≡ length c.args.out.now
 long c =
-    let a = c.before.args in
+    let a = c.args in
     ap length c.loop-k.invariant.1 ∙ length-sets a.out.now 0 (each (λ k. get_or a.values.now k 0) c.loop-k.k)
 
 loop-holds : tie.Need-loop-k-init invariant-loop decreases-loop
@@ -36,7 +36,7 @@ mul-out-2 : tie.Need-offset_bounds-out-k invariant-loop decreases-loop
 mul-out-2 c = search rules
 
 slice-write-out : tie.Need-bounds-out-k invariant-loop decreases-loop
-slice-write-out c = omega (arith, long c.before.before, c.before.before.before.requires)
+slice-write-out c = omega (arith, long c.before.before, c.requires)
 
 add-k : tie.Need-overflow_add-k invariant-loop decreases-loop
 add-k c = search rules

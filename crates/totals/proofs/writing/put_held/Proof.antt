@@ -25,9 +25,9 @@ invariant-loop counts values out₀ k₀ out k = (k ≤ length counts) × (out �
 abbrev decreases-loop : tie.decreases-loop-k
 decreases-loop counts values out₀ k₀ out k = length counts - k
 
-long : (c : tie.At-loop-k invariant-loop decreases-loop) → length c.loop-k.out ≡ length c.before.before.args.out.now
+long : (c : tie.At-loop-k invariant-loop decreases-loop) → length c.loop-k.out ≡ length c.args.out.now
 long c =
-    let a = c.before.before.args in
+    let a = c.args in
     ap length c.loop-k.invariant.1 ∙ length-sets a.out.now 0 (each (held_at a.counts.now a.values.now a.out.now) c.loop-k.k)
 
 loop-holds : tie.Need-loop-k-init invariant-loop decreases-loop
@@ -52,7 +52,7 @@ mul-held-3 c = search rules
 slice-copy-out-held : tie.Need-slice_copy_out-held invariant-loop decreases-loop
 slice-copy-out-held c =
     let l = c.before.before.before in
-    omega (arith, long l, l.before.before.requires.1)
+    omega (arith, long l, l.requires.1)
 
 held-requires : tie.Need-held-requires invariant-loop decreases-loop
 held-requires c κs = search rules
@@ -64,7 +64,7 @@ slice-set-from-out : tie.Need-bounds-out-k invariant-loop decreases-loop
 slice-set-from-out c =
     let t = c.before.before.before in
     let l = t.before.before in
-    omega (arith, long l, l.before.before.requires.1)
+    omega (arith, long l, l.requires.1)
 
 add-k : tie.Need-overflow_add-k invariant-loop decreases-loop
 add-k c = search rules
@@ -80,8 +80,8 @@ loop-again c =
       omega arith,
       each_more (held_at s.args.counts.now s.args.values.now s.args.out.now) l.loop-k.out s.args.out.now l.loop-k.k _ l.loop-k.invariant.1
           (back w64 c.held.result c.held.type_inv ∙ c.held.ensures
-          ∙ ap₂ (held_of (get_or s.args.counts.now l.loop-k.k 0)) (back w64 _ c.before.before.held-arg-1.given)
-          (back w64 _ c.before.held-arg-in-loop-k-1.given ∙ unwritten (held_at s.args.counts.now s.args.values.now s.args.out.now) (pos 0) l.loop-k.out s.args.out.now l.loop-k.k (omega (arith, l.loop-k.invariant.0, s.requires.1)) l.loop-k.invariant.1)),
+          ∙ ap₂ (held_of (get_or s.args.counts.now l.loop-k.k 0)) (back w64 _ c.held-arg-1.given)
+          (back w64 _ c.held-arg-in-loop-k-1.given ∙ unwritten (held_at s.args.counts.now s.args.values.now s.args.out.now) (pos 0) l.loop-k.out s.args.out.now l.loop-k.k (omega (arith, l.loop-k.invariant.0, s.requires.1)) l.loop-k.invariant.1)),
     )
 
 same_length : tie.Need-shape_of-out invariant-loop decreases-loop

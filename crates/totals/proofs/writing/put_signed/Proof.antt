@@ -20,10 +20,10 @@ invariant-loop values out₀ k₀ out k = (k ≤ length values) × (out ≡ sets
 abbrev decreases-loop : tie.decreases-loop-k
 decreases-loop values out₀ k₀ out k = length values - k
 
-long : (c : tie.At-loop-k invariant-loop decreases-loop) → length c.loop-k.out ≡ length c.before.args.out.now
+long : (c : tie.At-loop-k invariant-loop decreases-loop) → length c.loop-k.out ≡ length c.args.out.now
 long c =
-    let a = c.before.args in
-    ap length c.loop-k.invariant.1 ∙ length-sets a.out-1.now 0 (each (λ k. get_or a.values.now k (pos 0)) c.loop-k.k)
+    let a = c.args in
+    ap length c.loop-k.invariant.1 ∙ length-sets a.out.now 0 (each (λ k. get_or a.values.now k (pos 0)) c.loop-k.k)
 
 loop-holds : tie.Need-loop-k-init invariant-loop decreases-loop
 unfolding joined
@@ -39,7 +39,7 @@ mul-t8 : tie.Need-offset_bounds-out-k invariant-loop decreases-loop
 mul-t8 c = search rules
 
 slice-set-from-out : tie.Need-bounds-out-k invariant-loop decreases-loop
-slice-set-from-out c = omega (arith, long c.before.before, c.before.before.before.requires)
+slice-set-from-out c = omega (arith, long c.before.before, c.requires)
 
 add-k : tie.Need-overflow_add-k invariant-loop decreases-loop
 add-k c = search rules

@@ -10,12 +10,12 @@ use Rattle.loftsplice.specs.declared.scan.State.{State}
 use Rattle.loftsplice.specs.Scan.{Outcome, index_in, seek_of}
 use Rattle.presence.specs.Presence.{sought_at}
 use borrow.Author.Rules.{rules}
-use Rattle.presence.proofs.index.Goals as goal
-use Rattle.presence.proofs.index.Goals.{After-seek-moved, Start}
+use Rattle.presence.proofs.index.Statement.{statement}
+use Rattle.presence.proofs.index.Tie as tie
 
 -- where the seek stands
-module _ (c : After-seek-moved) where
-  abbrev s : Start
+module _ (c : tie.After-seek-moved) where
+  abbrev s : tie.Start
   s = c.before.before.before
 
   abbrev p : Source
@@ -27,13 +27,31 @@ module _ (c : After-seek-moved) where
       ∙ ap (λ (o : Outcome). Gives (index_in o.scan.state)) (rw (to_z-of_z s.ranges.number) at c.seek-moved.ensures)
       ∙ ap (λ (w : Scan). Gives (index_in (seek_of p s.args.number w).scan.state)) c.whole-scan.ensures
 
-pub returns-in-At : goal.returns-in-At
-returns-in-At c =
-    let at-state = c.before in
-    stood at-state.before.before.before _ at-state.in-At.is
+whole-requires : tie.Need-whole-scan-requires
+whole-requires c κs = search rules
 
-pub returns-in-Fresh : goal.returns-in-Fresh
-returns-in-Fresh c = stood c.before.before.before _ c.in-Fresh.is
+seek-requires : tie.Need-seek-moved-requires
+seek-requires c κs = search rules
 
-pub returns-in-Ended : goal.returns-in-Ended
-returns-in-Ended c = stood c.before.before.before _ c.in-Ended.is
+enum-known-state : tie.Need-enum_known-state
+enum-known-state c = search rules
+
+enum_told : tie.Need-enum_told-1
+enum_told c = search rules
+
+enum-told-2 : tie.Need-enum_told-in-Ended
+enum-told-2 c = search rules
+
+returns : tie.Need-returns-in-At
+returns c =
+    let at-state = c in
+    stood at-state.before.before _ at-state.in-At.is
+
+returns-2 : tie.Need-returns-in-Fresh
+returns-2 c = stood c.before.before _ c.in-Fresh.is
+
+returns-3 : tie.Need-returns-in-Ended
+returns-3 c = stood c.before.before _ c.in-Ended.is
+
+pub index_spec : {M : Type 1} → statement M
+index_spec = tie.close (tie.spec whole-requires seek-requires enum-known-state enum_told enum-told-2 returns returns-2 returns-3)
