@@ -2,7 +2,7 @@
 """Turns the proofs of an older Rattle, walks in proofs/F/Proof.antt, into today's: proofs/F/Invariants.antt and proofs/F/Answers.antt. A proof with lemmas over
 places of the code stays a Proof.antt, under today's names.
 
-    python3 tools/answers.py NAMES CRATE [MODULE.FUNCTION ..]
+    python3 tools/answers.py NAMES CRATE [MODULE.FUNCTION ..]        with a + before a function its proof stays a Proof.antt
 
 NAMES is the folder that `rt names NAMES` wrote, of which CRATE's names.json tells the old and the new name of each goal, step and clause. Answers that only
 searched are left out, since the check searches by itself. What it could not turn it prints. It proves nothing: `rt check` decides.
@@ -229,6 +229,8 @@ class Turned:
 
     def read(self, var, parts):
         """A path in today's names."""
+        if var == 'tie':
+            return '.'.join([var] + parts)
         n = 0
         while n < len(parts) and parts[n] == 'before':
             n += 1
@@ -283,6 +285,7 @@ class Turned:
                     continue
                 row = re.sub(r"(?<![\w.'-])(%s)(?![\w'₀₁-])" % WORD, lambda m: 'c' if m[1] in same else m[1], flat)
                 row = re.sub(r"(?<![\w.'-])c(?:\.before)+(?![\w.'-])", 'c', row)
+            row = re.sub(r"(to_z w\d+ \(?[\w.'-]*\bloop(?:-\w+)*\.\w+)(?![\w.'-])", r"\1-bits", row)  # a signed variable of a loop
             out.append(re.sub(r"let (%s) = (?:(%s) )?(%s)((?:\.before)*) in(?![\w'-])|((?<![\w.'-])%s|\))((?:\.[\w'-]+)+)" % (WORD, WORD, WORD, WORD), turn, row))
         return '\n'.join(out)
 
@@ -301,6 +304,8 @@ class Turned:
         m = re.match(r"(?:abbrev |pub )*(\S+) : \((%s) : tie\.([A-Z][\w'-]*)[^)]*\) → *tie\.([A-Z][\w'-]*)" % WORD, whole)
         if m:
             self.helpers[m[1]] = norm(m[4])
+        for m in re.finditer(r"^ +(?:abbrev |pub )*(%s) : tie\.([A-Z][\w'-]*)[^→\n]*$" % WORD, whole, re.M):
+            self.env[m[1]] = norm(m[2])
         self.seen_from(next(iter(self.env.values()), None))
 
     def types(self, text):
@@ -433,7 +438,7 @@ class Turned:
             return None
         head, decls = blocks(text)
         self.used = set()
-        self.walks = False
+        self.walks = self.function in WALKS
         for b in decls:
             code = [l for l in b if not l.startswith('--')]
             whole = '\n'.join(code)
@@ -560,4 +565,5 @@ def main(names, crate, only):
             print(f"{function}: {'; '.join(left)}")
 
 
-main(sys.argv[1], sys.argv[2], set(sys.argv[3:]))
+WALKS = {w[1:] for w in sys.argv[3:] if w.startswith('+')}
+main(sys.argv[1], sys.argv[2], {w.lstrip('+') for w in sys.argv[3:]})

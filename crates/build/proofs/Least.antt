@@ -115,7 +115,7 @@ ahead (v ∷ vs) = (more v vs (ahead vs).0 (ahead vs).1, fewest v vs (ahead vs).
 pub record Reached (s d : ℤ) (n : ℕ) (ys : List ℤ) : Type 0 where
   pub open-run : Run
   pub fair : Fair open-run
-  pub goes-on : joins open-run d ≡ true
+  pub goes_on : joins open-run d ≡ true
   pub is : runs_of (each (offset s d) (suc n) ++ ys) ≡ runs_from open-run (offset s d n) ys
 
 pub apart : (s d : ℤ) (n : ℕ) → offset s d (suc n) -ℤ offset s d n ≡ d
@@ -126,7 +126,7 @@ unfolding runs_of joined
 reached s d fits zero ys = record {
   open-run = begun (offset s d 0);
   fair = fair-begun (offset s d 0);
-  goes-on = joins-second (begun (offset s d 0)) d refl ∙ fits;
+  goes_on = joins-second (begun (offset s d 0)) d refl ∙ fits;
   is = refl;
 }
 reached s d fits (suc n) ys = on (reached s d fits n (offset s d (suc n) ∷ ys))
@@ -137,7 +137,7 @@ reached s d fits (suc n) ys = on (reached s d fits n (offset s d (suc n) ∷ ys)
         record {
           open-run = longer r.open-run d;
           fair = fair-longer r.open-run d r.fair r.goes_on;
-          goes-on = joins-longer r.open-run d d r.fair.some ∙ same_self d;
+          goes_on = joins-longer r.open-run d d r.fair.some ∙ same_self d;
           is = ap runs_of (append_assoc (each (offset s d) (suc n)) (offset s d (suc n) ∷ []) ys) ∙ r.is
               ∙ from-joined r.open-run (offset s d n) (offset s d (suc n)) ys j
               ∙ ap (λ e. runs_from (longer r.open-run e) (offset s d (suc n)) ys) (apart s d n);

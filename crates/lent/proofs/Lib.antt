@@ -1,3 +1,2 @@
-pub mod Walking
 pub mod Lending
 pub mod Chained

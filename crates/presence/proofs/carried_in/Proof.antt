@@ -91,7 +91,7 @@ module _ (c : tie.After-mark) where
   wrote : c.mark.new.1.1.1.0 ≡ after (Gives fine) (flags_of (p at-run).sequence ks) flags
   wrote =
       c.mark.ensures
-      ∙ flags-marked (p at-run) ks _ at-run.before.before.whole-scan.ensures (s at-run).requires.1 _ (replicate 512 (pos 0)) _ _ at-run.seek_run-ran.ensures.0 at-run.seek_run-ran.ensures.1
+      ∙ flags-marked (p at-run) ks _ at-run.whole-scan.ensures (s at-run).requires.1 _ (replicate 512 (pos 0)) _ _ at-run.seek_run-ran.ensures.0 at-run.seek_run-ran.ensures.1
       (ap says_counted at-counted.in-Values.is) flags
 
 same_length : tie.Need-shape_of-flags

@@ -42,7 +42,7 @@ module _ (e : tie.Else-count-number) where
   fine = e.before
 
   abbrev check : tie.After-check_profile
-  check = fine.before.before
+  check = fine.before
 
   fits : Fits (col check) (st check).args.count
   fits = fits-clear (st check).args.profile (st check).args.count (col check) (was-clear (st check).args.profile (st check).args.count (source_of (col check)) check.check_profile.result check.check_profile.ensures fine.in-Fine.is)

@@ -25,12 +25,12 @@ module _ (s : tie.Start) where
   records = all_records s.args.count (sequence_of (col s))
 
 -- whether all fits
-module _ (c : tie.After-fits2) where
+module _ (c : tie.After-fits) where
   abbrev st : tie.Start
   st = c.before.before
 
-  told : c.fits2.result ≡ (up st && records st)
-  told = c.fits2.ensures ∙ fits-exactly (col st) (sound-parts (col st) st.requires) st.args.count
+  told : c.fits.result ≡ (up st && records st)
+  told = c.fits.ensures ∙ fits-exactly (col st) (sound-parts (col st) st.requires) st.args.count
 
 fits-requires : tie.Need-fits-requires
 fits-requires c κs = search rules

@@ -55,7 +55,7 @@ module _ (s : tie.Start invariant-loop decreases-loop) where
 
 
 module _ (c : tie.At-loop-k invariant-loop decreases-loop) where
-  inv : let a = c.args in Making a.base a.step a.elements a.targets.now a.out.now a.count c.loop-k.at (to_z w64 c.loop-k.value) c.loop-k.k c.loop-k.out
+  inv : let a = c.args in Making a.base a.step a.elements a.targets.now a.out.now a.count c.loop-k.at (to_z w64 c.loop-k.value-bits) c.loop-k.k c.loop-k.out
   inv = rw (of-base c.before, of-step c.before) at c.loop-k.invariant
 
   long : length c.loop-k.out ≡ length c.args.out.now

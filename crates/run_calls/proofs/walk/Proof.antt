@@ -23,7 +23,7 @@ invariant-loop starts target from last run₀ run = (from ≤ run) × (run ≤ l
 abbrev decreases-loop : tie.decreases-loop-run
 decreases-loop starts target from last run₀ run = last - run
 
-abbrev above : tie.start-1 invariant-loop decreases-loop → ℕ → Bool
+abbrev above : tie.Start invariant-loop decreases-loop → ℕ → Bool
 above s k = lt_z s.args.target (get_or s.args.starts.now (suc k) (pos 0))
 
 passed : (c : tie.At-loop-run invariant-loop decreases-loop) (j : ℕ) → c.args.from ≤ j → j < c.loop-run.run → above c.before j ≡ false

@@ -46,7 +46,7 @@ module _ (c : tie.At-loop-k invariant-loop decreases-loop) where
   abbrev start : tie.Start invariant-loop decreases-loop
   start = c.before.before.before
 
-  entered : Entered (col start) start.args.end start.args.footing.index c.loop-k.run c.loop-k.index (to_z w64 c.loop-k.base)
+  entered : Entered (col start) start.args.end start.args.footing.index c.loop-k.run c.loop-k.index (to_z w64 c.loop-k.base-bits)
   entered = c.loop-k.invariant.entered
 
   here : c.loop-k.run < length start.args.ends.now
@@ -159,9 +159,9 @@ module _ (c : tie.After-run_seeks-sought invariant-loop decreases-loop) where
   rest = take (length s.args.targets.now - in-turn.loop-k.k) (drop in-turn.loop-k.k s.args.targets.now)
 
   turned : Turn (col s) s.args.end s.args.footing.index s.args.targets.now s.args.out.now s.args.count in-turn.loop-k.run in-turn.loop-k.index
-      (to_z w64 in-turn.loop-k.base) in-turn.loop-k.k in-turn.loop-k.out at_arg.before.smaller-upto.result rest c.run_seeks-sought.result.made c.run_seeks-sought.result.at
+      (to_z w64 in-turn.loop-k.base-bits) in-turn.loop-k.k in-turn.loop-k.out at_arg.smaller-upto.result rest c.run_seeks-sought.result.made c.run_seeks-sought.result.at
   turned = turn (col s) (whole s) s.args.end s.args.footing.index s.requires.0.fit s.requires.0.rising s.args.targets.now s.args.out.now s.args.count
-      s.requires.1.0.0 s.requires.1.0.1 in-turn.loop-k.invariant at_arg.before.smaller-upto.result at_arg.before.smaller-upto.ensures rest (rest-is s.args.targets.now in-turn.loop-k.k) _ _
+      s.requires.1.0.0 s.requires.1.0.1 in-turn.loop-k.invariant at_arg.smaller-upto.result at_arg.smaller-upto.ensures rest (rest-is s.args.targets.now in-turn.loop-k.k) _ _
       (rw (of-step at_arg) at c.run_seeks-sought.ensures.0) (rw (of-step at_arg) at c.run_seeks-sought.ensures.1.0)
 
 add-k : tie.Need-overflow_add-k invariant-loop decreases-loop

@@ -100,7 +100,7 @@ module _ (c : tie.Else-rest-eq0) where
   third-is =
       let o : (s e2).args.at + (by + 1) ≡ next e2 + 1 = omega arith in
       rw o at (window-first true (s e2).args.bytes.now (s e2).args.at (by + 1) rest (byte (e1 e2))
-      (shr-shr (here e2) by 1 ∙ ap (λ x. x / 2 ^ (by + 1)) e2.before.window-here.ensures) some-rest (s e2).args.count (s e2).requires.0)
+      (shr-shr (here e2) by 1 ∙ ap (λ x. x / 2 ^ (by + 1)) e2.window-here.ensures) some-rest (s e2).args.count (s e2).requires.0)
 
   third-near : count_trailing_zeros 64 rest ≤ 64
   third-near = trailing_le 64 rest

@@ -67,13 +67,13 @@ module _ (c : tie.Else-ahead-eq0 invariant-loop decreases-loop) where
   next-is =
       let o : l.loop-last.last + 1 + 0 ≡ l.loop-last.last + 1 = omega arith in
       let z : w.window-ahead.result ≡ w.window-ahead.result / 2 ^ 0 = omega arith in
-      rw o at (window-first true (start l).args.bytes.now (l.loop-last.last + 1) 0 w.window-ahead.result (λ k. (l.before.shared_slice_known-1.given k).fits)
-      (z ∙ ap (λ x. x / 2 ^ 0) w.window-ahead.ensures) (omega (arith, c.if-ahead-eq0.false)) (start l).args.count (omega (arith, w.before.loop-last-test.true)))
+      rw o at (window-first true (start l).args.bytes.now (l.loop-last.last + 1) 0 w.window-ahead.result (λ k. (l.shared_slice_known-1.given k).fits)
+      (z ∙ ap (λ x. x / 2 ^ 0) w.window-ahead.ensures) (omega (arith, c.if-ahead-eq0.false)) (start l).args.count (omega (arith, w.loop-last-test.true)))
 
   next-near : zeros < 64
   next-near =
       let z : w.window-ahead.result ≡ w.window-ahead.result / 2 ^ 0 = omega arith in
-      let h = window-near true (start l).args.bytes.now (l.loop-last.last + 1) 0 w.window-ahead.result (λ k. (l.before.shared_slice_known-1.given k).fits)
+      let h = window-near true (start l).args.bytes.now (l.loop-last.last + 1) 0 w.window-ahead.result (λ k. (l.shared_slice_known-1.given k).fits)
       (z ∙ ap (λ x. x / 2 ^ 0) w.window-ahead.ensures) (omega (arith, c.if-ahead-eq0.false)) in
       omega (arith, h)
 

@@ -62,7 +62,7 @@ module _ (c : tie.After-climb-floor invariant-loop decreases-loop) where
 
   found : c.climb-floor.result ≡ climb_of (start_of k at.loop-r.r) (step_of k at.loop-r.r) (more_of k at.loop-r.r) (floor_of k at.loop-r.r) (start at).args.count
   found = c.climb-floor.ensures ∙ climb-told k at.loop-r.r at.loop-r.low at.loop-r.floor (start at).args.count _ _
-      (back w64 (start_of k at.loop-r.r) arg.climb-arg.given) (back w16 (step_of k at.loop-r.r) c.climb-arg-in-loop-r-1.given) at.loop-r.invariant.1 at.loop-r.invariant.2
+      (back w64 (start_of k at.loop-r.r) arg.climb-arg-1.given) (back w16 (step_of k at.loop-r.r) c.climb-arg-in-loop-r-1.given) at.loop-r.invariant.1 at.loop-r.invariant.2
 
 loop-holds : tie.Need-loop-r-init invariant-loop decreases-loop
 unfolding floor_of

@@ -42,7 +42,7 @@ module _ (c : tie.After-seek-moved) where
   at-scan = c.before
 
   abbrev at_new : tie.After-new
-  at_new = at-scan.before.before
+  at_new = at-scan.before
 
   abbrev st : tie.Start
   st = at_new.before.before
