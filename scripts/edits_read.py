@@ -11,14 +11,14 @@ class Edit(typing.NamedTuple):
     crate: str
     label: str
     place: str
-    need: str
+    goal: str
     pairs: list  # file, old text, new text
 
 
 class Found(typing.NamedTuple):
     """The prover's first error."""
     place: str
-    need: str
+    goal: str
     says: str
 
 
@@ -26,14 +26,14 @@ class Found(typing.NamedTuple):
 
 def read(path, crate):
     """An edit by its file, as `rt must-fail` reads it, and its line `fails:`."""
-    place = need = file = old = None
+    place = goal = file = old = None
     pairs = []
     for line in path.read_text().splitlines():
         if line.startswith('# fails:'):
             told = re.fullmatch(r'# fails: (\S+) (\S+): (\S.*)', line)
             if not told or place:
-                raise Bad('its line `# fails: PLACE NEED: the fact in words` is not of that form, or stands twice')
-            place, need = told[1], told[2]
+                raise Bad('its line `# fails: PLACE GOAL: the fact in words` is not of that form, or stands twice')
+            place, goal = told[1], told[2]
         elif line.startswith('file: '):
             file = line.removeprefix('file: ')
         elif line.startswith('old: '):
@@ -43,7 +43,7 @@ def read(path, crate):
             old = None
     if not pairs:
         raise Bad('it has no pair `old:`, `new:`')
-    return Edit(crate, path.stem, place, need, pairs)
+    return Edit(crate, path.stem, place, goal, pairs)
 
 
 def changed(folder, pairs):
@@ -60,17 +60,55 @@ def changed(folder, pairs):
     return before, after
 
 
+# ---- the names of goals and steps
+
+WORD = re.compile(r"[A-Za-z_][\w'-]*")
+
+
+def is_name_gone(text):
+    return re.search(r'has no .* that can be named from here|has no field|is not in scope', text) is not None
+
+
+def renamed(before, after, crate):
+    """For each function, by its folder below proofs/, the names that its goals and steps had and have, where they differ."""
+    out = {}
+    for key in before.keys() & after.keys():
+        if not isinstance(before[key], dict) or 'needs' not in before[key]:
+            continue
+        names = {}
+        for kinds in ('needs', 'steps', 'places', 'loops'):
+            then, now = all_names(before[key], kinds), all_names(after[key], kinds)
+            names.update({then[n]: now[n] for n in then.keys() & now.keys() if then[n] != now[n]})
+        for then, now in list(names.items()):
+            names[f'Need-{then}'] = f'Need-{now}'
+            names[f'invariant-{then}'], names[f'decreases-{then}'] = f'invariant-{now}', f'decreases-{now}'
+        if any(then != now for then, now in names.items()):
+            out[key.removeprefix(f'Rattle-{crate}-proofs.').removesuffix('.Lts').replace('.', '/')] = names
+    return out
+
+
+def all_names(listed, kinds):
+    """The names of a function, by those that go by their order."""
+    if kinds == 'needs':
+        return dict(listed['needs'])
+    if kinds == 'loops':
+        return dict(loop[0] for loop in listed['loops'])
+    if kinds == 'steps':
+        return dict(place[2] for place in listed['places'])
+    return {place[0]: name for place, name in zip(listed['places'], listed['places_by_name'])}
+
+
 # ---- the prover's answer
 
 START = re.compile(r'(?:note: )?(/?[^\s:]+\.(?:antt|rt)):\d+:\d+: (?:(error|note): )?(.*)')
 
 
 def first_error(text, crate):
-    """The first error that is not another's consequence, with the lines that belong to it; or, of a function that has no proof file, the need that is left."""
+    """The first error that is not another's consequence, with the lines that belong to it; or, of a function that has no answer for it, the goal that is left."""
     lines = text.splitlines()
     for n, line in enumerate(lines):
         at = START.fullmatch(line)
-        if not at or at[2] != 'error' or 'was not admitted' in at[3]:
+        if not at or at[2] != 'error' or re.search(r'was not admitted|was rejected, w(as|ere) not checked', at[3]):
             continue
         says = [at[3]]
         for more in lines[n + 1:]:
@@ -78,9 +116,9 @@ def first_error(text, crate):
                 break
             says.append(more.strip())
         told = re.match(r'`([^`]+)`: (.*)', ' '.join(says), re.S)
-        path = at[1].split(f'/crates/{crate}/')[-1].removeprefix('proofs/').removesuffix('.antt').removesuffix('/Proof')
+        path = re.sub(r'(/(Proof|Answers|Invariants))?\.antt$', '', at[1].removeprefix('./').removeprefix('proofs/'))
         return Found(path.replace('/', '::'), told[1] if told else '?', told[2] if told else ' '.join(says))
-    left = re.search(rf'^fn {crate}::(\S+): no proof: .*?(`search` does not close) `([^`]+)`', text, re.M)
+    left = re.search(rf'^fn {crate}::(\S+): no proof: .*?(`search` did not prove) `([^`]+)`', text, re.M)
     return Found(left[1], left[3], left[2]) if left else None
 
 
@@ -90,7 +128,7 @@ def relation(statement):
     for c in statement.replace('↔', '×').replace('<', '≤'):
         depth += (c in '([{') - (c in ')]}')
         flat += c if depth == 0 else ' '
-    front = re.match(r'(?:\S*\.)?(?:(Path)|_(\S+)_)\s', flat)
+    front = re.match(r'(?:\S*\.)?(?:(Path)|◌(\S+?)◌)\s', flat)
     infix = next((sign for sign in '→×⊎≡≤' if f' {sign} ' in flat), '')
     if front and infix not in ('→', '×', '⊎'):
         return '≡' if front[1] else front[2]
@@ -101,7 +139,7 @@ def fact(says):
     """Whether an error says that a fact fails, and not that a proof does not fit."""
     if re.search(r'`omega`: the (goal|part \S+ of the goal) does not follow from what it read\. All of that holds, and the (goal|part) fails, at ', says):
         return True
-    if re.match(r'`search`: no proof of .* was found\.|`search` does not close', says):
+    if re.match(r'`search`: no proof of .* was found\.|`search` did not prove', says):
         return True
     if re.search(r"must be a path whose two ends are equal, and .* is none|this λ's body is `.*`, but the extension \(path\) type requires `", says):
         return True
@@ -119,8 +157,8 @@ def fact(says):
     return len(kinds) == 1 or named and 'computed as far as they go, the two types first differ where ' in says
 
 
-def judge(edit, status, text):
-    """Raises Bad unless the edit was refused where and as it says."""
+def judge(edit, status, text, known):
+    """Raises Bad unless the edit was refused where and as it says; known: what a name of the edited code was in the code unedited."""
     if status == 0:
         raise Bad('NOT REFUSED: the crate is still proved')
     if 'logic=not-proved' not in text:
@@ -128,10 +166,11 @@ def judge(edit, status, text):
     found = first_error(text, edit.crate)
     if found is None:
         raise Bad('no error that can be read: ' + ' '.join(text.split())[-300:])
-    where = f'{found.place} {found.need}: {found.says[:300]}'
+    found = found._replace(goal=known.get((found.place, found.goal), found.goal))
+    where = f'{found.place} {found.goal}: {found.says[:300]}'
     if not fact(found.says):
         raise Bad(f'refused, but a proof no longer fits, which shows no fact: {where}')
     if not edit.place:
-        raise Bad(f'it has no line `# fails: PLACE NEED: the fact in words`; it is refused at {where}')
-    if (found.place, found.need) != (edit.place, edit.need):
-        raise Bad(f'refused elsewhere than at {edit.place} {edit.need}: {where}')
+        raise Bad(f'it has no line `# fails: PLACE GOAL: the fact in words`; it is refused at {where}')
+    if (found.place, found.goal) != (edit.place, edit.goal):
+        raise Bad(f'refused elsewhere than at {edit.place} {edit.goal}: {where}')
