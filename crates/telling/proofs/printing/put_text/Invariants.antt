@@ -1,6 +1,5 @@
 -- `telling::printing::put_text` writes within the buffer. Assumes nothing.
 use Prim.Native.Nat.{◌-◌, ◌≤◌}
-use borrow.Author.Rules.{rules}
 use Rattle.telling.proofs.printing.put_text.Given as goal
 
 abbrev pub invariant-loop-i : goal.invariant-loop-i

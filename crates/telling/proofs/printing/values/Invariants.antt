@@ -1,6 +1,5 @@
 -- `telling::printing::values` writes within the buffer. Assumes nothing.
 use Prim.Native.Nat.{◌-◌, ◌*◌, ◌≤◌}
-use borrow.Author.Rules.{rules}
 use Rattle.telling.proofs.printing.values.Given as goal
 
 abbrev pub invariant-loop-i : goal.invariant-loop-i
