@@ -6,11 +6,13 @@ import pathlib
 import re
 
 ROOT = pathlib.Path(__file__).resolve().parent.parent
-CONTRACT = ('requires', 'ensures', 'ghost use', 'use ', 'pub mod ')
+# a clause and an import, each over one line or more
+CLAUSE = re.compile(r'^([ \t]+)(?:requires|ensures)\b.*(?:\n\1[ \t]+.*)*', re.M)
+IMPORT = re.compile(r'^(?:pub )?(?:ghost )?use [^;{\n]*(?:\{[^}]*\})?;?$', re.M)
 
 
 def lines(files, drop=()):
-    return [line for f in files for line in f.read_text().splitlines()
+    return [line for f in files for line in IMPORT.sub('', CLAUSE.sub('', f.read_text())).splitlines()
             if line.strip() and not line.strip().startswith(('//', '--', '#') + tuple(drop))]
 
 
@@ -24,17 +26,17 @@ def row(crate):
     src = sorted((crate / 'src').glob('*.rt'))
     specs = [f for f in sorted((crate / 'specs').glob('*.antt')) if f.name != 'Lib.antt']
     laws = [f for f in sorted((crate / 'proofs').glob('*.antt')) if f.name != 'Lib.antt']
-    proofs = sorted((crate / 'proofs').rglob('Proof.antt'))
-    code = lines(src, CONTRACT)
+    proofs = [f for name in ('Proof', 'Invariants', 'Answers') for f in (crate / 'proofs').rglob(f'{name}.antt')]
+    code = lines(src, ('pub mod ',))
     functions = sum(1 for line in code if re.match(r'\s*(pub |pub\(crate\) |pub extern "C" )?fn ', line))
     edits = [len(list((crate / folder).glob('*.edit'))) for folder in ('must-fail', 'edits')]
-    believe = lines([f for f in specs if believed(f)], ('use ',))
-    others = lines([f for f in specs if not believed(f)], ('use ',))
-    return [len(code), functions, len(believe), len(others), len(lines(laws, ('use ',))), len(proofs), len(lines(proofs)), *edits]
+    believe = lines([f for f in specs if believed(f)])
+    others = lines([f for f in specs if not believed(f)])
+    return [len(code), functions, len(believe), len(others), len(lines(laws)), len({f.parent for f in proofs}), len(lines(proofs)), *edits]
 
 
 def main():
-    names = [line.split(':')[0] for line in (ROOT / 'crates.txt').read_text().splitlines() if line and not line.startswith('#')]
+    names = [re.split(r'[ :]', line)[0] for line in (ROOT / 'crates.txt').read_text().splitlines() if line and not line.startswith('#')]
     print('| Crate | Code | Functions | Definitions | Other words | Laws | Function proofs | Their lines | Must-fail | Edits |')
     print('|---|---|---|---|---|---|---|---|---|---|')
     total = [0] * 9

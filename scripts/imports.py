@@ -1,76 +1,68 @@
 """Names that a file of crates/ imports and does not use. `python3 scripts/imports.py` lists them and fails if there is one; with --fix it takes
-them out. A name counts as used where it stands in the file outside comments and import lines."""
+them out. A name counts as used where it stands in the file outside comments and import lines, of an operator as ◌≤◌ each of its parts. The traits of std
+count as used: a call of a method names none."""
 import pathlib
 import re
 import sys
 
 ROOT = pathlib.Path(__file__).resolve().parent.parent
-GROUP = re.compile(r'^(ghost )?use ([^\s{}]+)\.\{([^}]*)\}(;?)$')
-WHOLE = re.compile(r'^(ghost )?use (\S+?)(?: as (\S+?))?(;?)$')
-PART = '[^\\s(){}\\[\\],;.⌜⌝λ]'
+# an import, over one line or more: what stands before the names, the names in braces or the last one, what stands after
+GROUP = re.compile(r'^((?:ghost )?use [^\s{};]+?(?:\.|::)\{)([^{}]*)(\};?)$', re.M)
+WHOLE = re.compile(r'^((?:ghost )?use )(\S+?)(?: as (\S+?))?(;?)$', re.M)
+PUBLIC = re.compile(r'^pub use [^\n{]*(?:\{[^{}]*\})?;?$', re.M)
+PART = '[^\\s(){}\\[\\],;.λ&*!:]'
+TRAITS = {'Read', 'Write', 'BufRead', 'Seek', 'Env', 'Debug', 'Display'}
 
 
 def body(text, comment):
-    """The file's text without comments and imports."""
-    kept = []
-    for line in text.split('\n'):
-        if line.startswith(('use ', 'ghost use ')):
-            continue
-        at = line.find(comment)
-        while at >= 0 and not (at == 0 or line[at - 1] in ' \t'):
-            at = line.find(comment, at + 1)
-        kept.append(line if at < 0 else line[:at])
-    return '\n'.join(kept)
+    """The file's text without imports and comments."""
+    text = re.sub(WHOLE, '', re.sub(GROUP, '', re.sub(PUBLIC, '', text)))
+    return re.sub(rf'(?m)(^|[ \t]){comment}.*$', '', text)
 
 
 def used(name, text):
-    """Whether a name stands in the text by itself; of an operator, each of its parts."""
-    if '_' in name and not re.fullmatch(r'\w+', name):
-        parts = [p for p in name.split('_') if p]
-        return all(re.search(r'(?<!' + PART + ')' + re.escape(p) + r'(?!' + PART + ')', text) or p in text.split() for p in parts)
-    return re.search(r'(?<!' + PART + ')' + re.escape(name) + r'(?!' + PART + ')', text) is not None
-
-
-def called(item):
-    """The name by which the file knows an item of a group."""
-    return item.split(' as ')[-1].strip()
+    """Whether a name stands in the text by itself; of an operator, it or each of its parts."""
+    if '◌' in name or name == '[]':
+        return name in text or all(p in re.split(r'[\s(){}\[\],;]+', text) for p in name.split('◌') if p)
+    return re.search(rf'(?<!{PART}){re.escape(name)}(?!{PART})', text) is not None
 
 
 def pruned(path):
     """The file's text without unused names, and those names."""
-    text = path.read_text()
-    rust = path.suffix == '.rt'
-    rest = body(text, '//' if rust else '--')
-    gone, out = [], []
-    for line in text.split('\n'):
-        group, whole = GROUP.match(line), WHOLE.match(line)
-        if group:
-            items = [i.strip() for i in group.group(3).split(',')]
-            keep = [i for i in items if used(called(i), rest)]
-            gone += [i for i in items if i not in keep]
-            if keep:
-                out.append(line if keep == items else f'{group.group(1) or ""}use {group.group(2)}.{{{", ".join(keep)}}}{group.group(4)}')
-            continue
-        if whole and not line.startswith('pub ') and not whole.group(2).endswith('*'):
-            name = whole.group(3) or re.split(r'::|\.', whole.group(2))[-1]
-            if not re.search(r'(?<![\w·])' + re.escape(name) + r'(?![\w·])', rest):
-                gone.append(name)
-                continue
-        out.append(line)
-    return '\n'.join(out), gone
+    text, gone = path.read_text(), []
+    rest = body(text, '//' if path.suffix == '.rt' else '--')
+
+    def stays(name):
+        name = re.split(r'\s+as\s+', name)[-1].strip()
+        return name in TRAITS or used(name, rest)
+
+    def group(found):
+        items = [i.strip() for i in found[2].split(',') if i.strip()]
+        keep = [i for i in items if stays(i)]
+        gone.extend(i for i in items if i not in keep)
+        return found[0] if keep == items else found[1] + ', '.join(keep) + found[3] if keep else ''
+
+    def whole(found):
+        name = found[3] or re.split(r'::|\.', found[2])[-1]
+        if name.endswith(('*', '}')) or stays(name):
+            return found[0]
+        gone.append(name)
+        return ''
+
+    return re.sub(WHOLE, whole, re.sub(GROUP, group, text)), gone
 
 
 def main():
     bad = 0
     for path in sorted((ROOT / 'crates').rglob('*')):
-        if path.suffix not in ('.rt', '.antt') or path.name == 'Lib.antt':
+        if path.suffix not in ('.rt', '.antt') or path.name == 'Lib.antt' or 'out' in path.relative_to(ROOT).parts:
             continue
         text, gone = pruned(path)
         if gone:
             bad += len(gone)
             print(f'imports: {path.relative_to(ROOT)}: {", ".join(gone)}')
             if '--fix' in sys.argv[1:]:
-                path.write_text(text)
+                path.write_text(re.sub(r'\n{3,}', '\n\n', text))
     print(f'imports: {bad} unused' if bad else 'imports: all used')
     sys.exit(1 if bad and '--fix' not in sys.argv[1:] else 0)
 

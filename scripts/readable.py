@@ -18,7 +18,7 @@ def contracts(path, lines):
 
 
 def places(path, lines):
-    return [(n, 'a chain of four or more .before') for n, line in lines if re.search(r'(\.before ){3,}\.before', line)]
+    return [(n, 'a chain of four or more .before') for n, line in lines if re.search(r'(\.before\b ?){4}', line)]
 
 
 def prose(path, lines):

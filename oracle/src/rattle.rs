@@ -50,27 +50,27 @@ fn sample(cases: usize, seed: u64, made_by: &str) -> Vec<(String, String)> {
     let head = |what: &str| format!("// {what}\n// Made by `{made_by}`; not written by hand.\n");
     let mut files = Vec::new();
     let mut main = head("A fixed sample of the Rust's answers, played again: what this writes must be what the Rust answered.");
-    main.push_str("mod played;\n");
+    main.push_str("#![tactic(auto)]\n\n");
     let numbers = 1..=played.len().div_ceil(IN_A_FILE);
     numbers.clone().for_each(|n| writeln!(main, "mod cases_{n};").unwrap());
-    main.push_str("\nfn main() {\n");
-    numbers.for_each(|n| writeln!(main, "    cases_{n}::all();").unwrap());
+    main.push_str("mod played;\n\nfn main(rt: HostRuntime) {\n");
+    numbers.for_each(|n| writeln!(main, "    cases_{n}::all(&rt);").unwrap());
     main.push_str("}\n");
     files.push(("src/main.rt".to_string(), main));
     let mut stdout = String::new();
     for (n, chunk) in played.chunks(IN_A_FILE).enumerate() {
         let mut code = head("Calls of the sample.");
         code.push_str("use crate::played::*;\nuse shown::text;\n");
-        let mut all = String::from("\npub fn all() {\n");
+        let mut all = String::from("\npub fn all(rt: &HostRuntime) {\n");
         for (k, (runs, calls, answers)) in chunk.iter().enumerate() {
             let number = n * IN_A_FILE + k + 1;
-            writeln!(code, "\nfn case_{number}(v: &[i64], e: &[u64], d: &[i16]) {{\n    text(b\"case {number}\\n\");").unwrap();
+            writeln!(code, "\nfn case_{number}(rt: &HostRuntime, v: &[i64], e: &[u64], d: &[i16]) {{\n    text(rt, b\"case {number}\\n\");").unwrap();
             calls.iter().enumerate().for_each(|(i, c)| writeln!(code, "    {};", spelt(c, &calls[i + 1..])).unwrap());
             code.push_str("}\n");
             let (v, e, s) = (plain(&runs.starts), plain(&runs.ends), plain(&runs.steps));
             // A function that lends few arrays is proved quicker than one that lends many.
-            writeln!(code, "\nfn lent_{number}() {{\n    case_{number}(&[{v}], &[{e}], &[{s}]);\n}}").unwrap();
-            writeln!(all, "    lent_{number}();").unwrap();
+            writeln!(code, "\nfn lent_{number}(rt: &HostRuntime) {{\n    case_{number}(rt, &[{v}], &[{e}], &[{s}]);\n}}").unwrap();
+            writeln!(all, "    lent_{number}(rt);").unwrap();
             writeln!(stdout, "case {number}\n{answers}").unwrap();
         }
         files.push((format!("src/cases_{}.rt", n + 1), format!("{code}{all}}}\n")));
@@ -181,21 +181,21 @@ fn spelt(call: &Call, later: &[Call]) -> String {
         format!("{}, {}, {}", list("v", lower), list("v", upper), list("i", inputs))
     };
     match call {
-        Call::New => keep("s", "new(v, e, d)".into()),
-        Call::Next => keep("s", "next(s, v, e, d)".into()),
-        Call::Seek(t) => keep("s", format!("seek(s, v, e, d, {t})")),
-        Call::Reset => keep("s", "reset(s, v, e, d)".into()),
-        Call::Narrow(a, b) => keep("s", format!("narrow(s, v, e, d, {a}, {b})")),
-        Call::Current => "current(s)".into(),
-        Call::Pos => "pos(s, v, e, d)".into(),
+        Call::New => keep("s", "new(rt, v, e, d)".into()),
+        Call::Next => keep("s", "next(rt, s, v, e, d)".into()),
+        Call::Seek(t) => keep("s", format!("seek(rt, s, v, e, d, {t})")),
+        Call::Reset => keep("s", "reset(rt, s, v, e, d)".into()),
+        Call::Narrow(a, b) => keep("s", format!("narrow(rt, s, v, e, d, {a}, {b})")),
+        Call::Current => "current(rt, s)".into(),
+        Call::Pos => "pos(rt, s, v, e, d)".into(),
         Call::FilterNew(_, l, u) => {
             let (l, u) = (list("b", l.iter().map(bound).collect()), list("b", u.iter().map(bound).collect()));
-            keep("f", format!("fnew(s, {l}, {u})"))
+            keep("f", format!("fnew(rt, s, {l}, {u})"))
         }
-        Call::FilterNext(l) => keep("f", format!("fnext(f, v, e, d, {})", lists(l))),
-        Call::FilterSeek(t, l) => keep("f", format!("fseek(f, v, e, d, {t}, {})", lists(l))),
-        Call::FilterCurrent => "fcurrent(f)".into(),
-        Call::FilterReset => keep("f", "freset(f)".into()),
+        Call::FilterNext(l) => keep("f", format!("fnext(rt, f, v, e, d, {})", lists(l))),
+        Call::FilterSeek(t, l) => keep("f", format!("fseek(rt, f, v, e, d, {t}, {})", lists(l))),
+        Call::FilterCurrent => "fcurrent(rt, f)".into(),
+        Call::FilterReset => keep("f", "freset(rt, f)".into()),
         other => unreachable!("{other} is not in the sample"),
     }
 }

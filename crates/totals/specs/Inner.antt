@@ -170,5 +170,5 @@ rooms_in counts leasts greatests highs lows =
     length counts.entry.now ∷ length leasts.entry.now ∷ length greatests.entry.now ∷ length highs.entry.now ∷ length lows.entry.now ∷ []
 
 -- values, but what an output held where the count is 0
-abbrev pub held_in : {A B C : Type 0} → Both (MutBor (List ℕ)) A → Both (MutBor (List ℤ)) B → Both (MutBor (List ℤ)) C → List ℤ
+abbrev pub held_in : {A B C : Type 0} → Both (Bor (List ℕ)) A → Both (Bor (List ℤ)) B → Both (MutBor (List ℤ)) C → List ℤ
 held_in counts values out = held_by counts.entry.now values.entry.now out.entry.now

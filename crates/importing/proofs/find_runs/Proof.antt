@@ -111,7 +111,7 @@ returns-2 : tie.Need-returns invariant-loop decreases-loop
 returns-2 c =
     let a = c.before in
     let st = start a in
-    let e = passed-done (p st) st.args.count a.loop-at.auto a.loop-at.n a.loop-at.at a.loop-at.invariant.0 c.loop-at-test.false in
+    let e = passed-done (p st) st.args.count a.loop-at.kept a.loop-at.n a.loop-at.at a.loop-at.invariant.0 c.loop-at-test.false in
     (omega (arith, e, a.loop-at.invariant.1), λ m. a.loop-at.invariant.0.kept)
 
 pub find_runs_spec : {M : Type 1} → statement M

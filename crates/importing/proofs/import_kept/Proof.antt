@@ -116,7 +116,7 @@ all c = c.before.before
 
 write-runs-requires : tie.Need-write_runs-requires
 write-runs-requires c κs =
-    let e = all c.before.before.before in
+    let e = all c.before.before in
     let m = is-count e in
     ((m, (few-runs e).if-n-gt4096.false, (k (found e)).find_runs-n.ensures.1 (few-runs e).if-n-gt4096.false), (omega (arith, m, e.if-starts-n.false), omega (arith, m, e.if-ends-n.false), omega (arith, m, e.if-steps-n.false)))
 
@@ -140,7 +140,7 @@ returns-6 c =
     let b = c.before.before.before in
     let w = b.before.before in
     let arg = w.before.before.before in
-    let e = all arg.before in
+    let e = all arg in
     let m = is-count e in
     let col = imported_column (s e).args.bytes.now (s e).args.count in
     let l1 : length col.starts ≤ starts (s e) = omega (arith, length-map (runs_of (values (s e))) (λ (r : Run). r.start), m, e.if-starts-n.false) in

@@ -39,10 +39,10 @@ module _ (s : tie.Start) where
   rooms = length s.args.counts.now ∷ length s.args.leasts.now ∷ length s.args.greatests.now ∷ length s.args.highs.now ∷ length s.args.lows.now ∷ []
 
 -- the counts' array has a place a window
-room : (c : tie.After-count_all) → let e = c.before.before.before in let s = start e.before.before in length s.args.from.now ≤ length c.count_all.new.1.1.1.0
+room : (c : tie.After-count_all) → let e = c.before.before.before in let s = start e.before.before in length s.args.from.now ≤ length c.count_all.new.counts
 room c =
     let e = c.before.before.before in
-    omega (arith, e.if-n-gt256.false, c.count_all.auto.1.1.1.0)
+    omega (arith, e.if-n-gt256.false, c.count_all.auto.counts)
 
 -- each window ends inside
 within : (c : tie.In-All) → let m = c.before.before in let e = m.before.before.before in let s = start e.before.before in
@@ -93,7 +93,7 @@ total-up-requires c κs = let a2 = c.before.before.before in
     let e = m.before.before.before in
     let s = start e.before.before in
     let t = counted-all _ _ _ _ _ _ m.count_all.ensures _ k.in-All.is in
-    (s.requires, (windows-inside (sq s) (ss s) (es s) (rooms s) e.if-n-gt256.false e.if-to-n.false (within k), (filled-front (count_at (ss s) (es s)) m.count_all.new.1.1.1.0 _ (length (ss s)) e.if-n-gt256.false t.each-is, t.added)))
+    (s.requires, (windows-inside (sq s) (ss s) (es s) (rooms s) e.if-n-gt256.false e.if-to-n.false (within k), (filled-front (count_at (ss s) (es s)) m.count_all.new.counts _ (length (ss s)) e.if-n-gt256.false t.each-is, t.added)))
 
 returns-3 : tie.Need-returns-in-Beyond
 returns-3 c = let n2 = c.before in
