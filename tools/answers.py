@@ -251,7 +251,7 @@ class Turned:
         return '.'.join([var] + self.path(parts, False if known == first + '-1' else 'call' if var == ')' else 'some'))
 
     def term(self, text):
-        alias, same = {}, {'c'} if self.env.get('c') else set()
+        alias, calls, same = {}, {}, {'c'} if self.env.get('c') else set()
 
         def turn(m):
             if m[1]:  # a let, which may name a place
@@ -264,6 +264,8 @@ class Turned:
                     self.env[m[1]] = norm(self.names['places'][chain[min(m[4].count('.'), len(chain) - 1)]][0])
                 return f"let {m[1]} = {value} in"
             var, rest = m[5], m[6].split('.')[1:]
+            if var in calls and rest[:1] == ['ensures']:
+                return '.'.join([var, 'ensures'] + self.path(self.clause(calls[var], rest[1:])))
             if var in alias:
                 return '.'.join([var] + self.path(self.clause(alias[var], rest)))
             return self.read(var, rest)
@@ -277,6 +279,9 @@ class Turned:
                 key = norm(m[2].split('.')[-1])
                 if key in self.clauses:
                     alias[m[1]] = self.clauses[key]
+            for m in re.finditer(r"let (%s) = \S+\.([\w'-]+) in" % WORD, row):
+                if norm(m[2]) in self.clauses and m[1] not in alias:
+                    calls[m[1]] = self.clauses[norm(m[2])]
             for m in re.finditer(r"let (%s) = \S*\brequires in" % WORD, row):
                 alias[m[1]] = self.requires
             if not self.walks:  # all that a place knows is a field of c

@@ -2,7 +2,6 @@
 use mathlib.Core.Path.{◌≡◌, sym, ap, ◌∙◌}
 use mathlib.Core.Bool.{Bool, cond}
 use Rattle.bounds.specs.declared.Bound.{Bound}
-use borrow.Author.Rules.{rules}
 use Rattle.bounds.proofs.choose.Goals as goal
 
 -- b or a, by one test for another

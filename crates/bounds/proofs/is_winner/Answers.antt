@@ -1,5 +1,4 @@
 -- `bounds::is_winner` meets its contract. Assumes nothing.
-use borrow.Author.Rules.{rules}
 use Rattle.bounds.proofs.is_winner.Goals as goal
 
 pub returns-in-InclusiveWins : goal.returns-in-InclusiveWins

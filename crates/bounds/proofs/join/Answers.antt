@@ -2,7 +2,6 @@
 use mathlib.Core.Path.{ap, ◌∙◌}
 use Rattle.bounds.specs.declared.Limit.TheVariants.{To}
 use Rattle.bounds.proofs.BoundCases.{join_free, join-to}
-use borrow.Author.Rules.{rules}
 use Rattle.bounds.proofs.join.Goals as goal
 
 pub returns-in-Free : goal.returns-in-Free

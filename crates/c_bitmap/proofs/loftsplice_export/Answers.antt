@@ -8,6 +8,6 @@ pub returns : goal.returns
 returns c =
     let r = c.export-answer in
     record {
-  value = c.flat_exported.ensures ∙ ap flat_exported r.ensures.0;
-  leaves = rw r.ensures.0 at r.ensures.1;
+  value = c.flat_exported.ensures ∙ ap flat_exported r.ensures.result_value;
+  leaves = rw r.ensures.result_value at r.ensures.leaves;
 }

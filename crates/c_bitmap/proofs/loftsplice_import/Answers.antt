@@ -7,8 +7,8 @@ use Rattle.c_bitmap.proofs.loftsplice_import.Goals as goal
 pub returns : goal.returns
 returns c =
     let r = c.import-answer in record {
-  value = c.flat_imported.ensures ∙ ap flat_imported r.ensures.0;
-  leaves = rw r.ensures.0 at r.ensures.1.0;
-  leaves_2 = rw r.ensures.0 at r.ensures.1.1.0;
-  leaves_3 = rw r.ensures.0 at r.ensures.1.1.1;
+  value = c.flat_imported.ensures ∙ ap flat_imported r.ensures.result_value;
+  leaves = rw r.ensures.result_value at r.ensures.leaves;
+  leaves_2 = rw r.ensures.result_value at r.ensures.leaves_2;
+  leaves_3 = rw r.ensures.result_value at r.ensures.leaves_3;
 }

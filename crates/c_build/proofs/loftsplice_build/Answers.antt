@@ -7,8 +7,8 @@ use Rattle.c_build.proofs.loftsplice_build.Goals as goal
 pub returns : goal.returns
 returns c =
     let r = c.build-answer in record {
-  value = c.flat_built.ensures ∙ ap flat_built r.ensures.0;
-  leaves = rw r.ensures.0 at r.ensures.1.0;
-  leaves_2 = rw r.ensures.0 at r.ensures.1.1.0;
-  leaves_3 = rw r.ensures.0 at r.ensures.1.1.1;
+  value = c.flat_built.ensures ∙ ap flat_built r.ensures.result_value;
+  leaves = rw r.ensures.result_value at r.ensures.leaves;
+  leaves_2 = rw r.ensures.result_value at r.ensures.leaves_2;
+  leaves_3 = rw r.ensures.result_value at r.ensures.leaves_3;
 }

@@ -8,6 +8,6 @@ pub returns : goal.returns
 returns c =
     let r = c.write-answer in
     record {
-  value = c.flat_written.ensures ∙ ap flat_written r.ensures.0;
-  leaves = rw r.ensures.0 at r.ensures.1;
+  value = c.flat_written.ensures ∙ ap flat_written r.ensures.result_value;
+  leaves = rw r.ensures.result_value at r.ensures.leaves;
 }

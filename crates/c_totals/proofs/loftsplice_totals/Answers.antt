@@ -6,11 +6,11 @@ use Rattle.c_totals.proofs.loftsplice_totals.Goals as goal
 
 pub returns : goal.returns
 returns c =    let r = c.totals-answer in
-    let e = r.ensures.0 in record {
+    let e = r.ensures.result_value in record {
   value = c.flat_totalled.ensures ∙ ap flat_totalled e;
-  leaves = rw e at r.ensures.1.0;
-  leaves_2 = rw e at r.ensures.1.1.0;
-  leaves_3 = rw e at r.ensures.1.1.1.0;
-  leaves_4 = rw e at r.ensures.1.1.1.1.0;
-  leaves_5 = rw e at r.ensures.1.1.1.1.1;
+  leaves = rw e at r.ensures.leaves;
+  leaves_2 = rw e at r.ensures.leaves_2;
+  leaves_3 = rw e at r.ensures.leaves_3;
+  leaves_4 = rw e at r.ensures.leaves_4;
+  leaves_5 = rw e at r.ensures.leaves_5;
 }

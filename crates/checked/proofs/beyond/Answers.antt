@@ -1,5 +1,5 @@
 -- `checked::beyond` meets its contract. Assumes nothing.
-use Rattle.std.proofs.Common.{◌≡◌, ◌+◌, ◌%◌, arith, rules}
+use Rattle.std.proofs.Common.{◌≡◌, ◌+◌, ◌%◌, arith}
 use Rattle.checked.proofs.beyond.Goals as goal
 
 pub returns : goal.returns

@@ -1,7 +1,7 @@
 -- `checked::check_ends` meets its contract. The loop's invariant: `last` is the end before run i, and every end below i is right. Assumes nothing.
-use Rattle.std.proofs.Common.{◌≡◌, ℕ, ◌-◌, ◌<◌, ◌≤◌, true, length, sym, refl, arith, rules, below_more}
+use Rattle.std.proofs.Common.{◌≡◌, true, length, sym, refl, arith, below_more}
 use Rattle.ranges.proofs.Spans.{all-in, not-all-in}
-use Rattle.meaning.specs.Column.{end_before, end_ok, ends_ok}
+use Rattle.meaning.specs.Column.{end_ok, ends_ok}
 use Rattle.meaning.proofs.Runs.{before-zero, before-next, end_low, end-far, end-good}
 use Rattle.checked.proofs.check_ends.Goals as goal
 

@@ -1,7 +1,5 @@
-use Rattle.std.proofs.Common.{◌≡◌, ℕ, ◌-◌, ◌<◌, ◌≤◌, true, length, sym, refl, arith, rules, below_more}
-use Rattle.ranges.proofs.Spans.{all-in, not-all-in}
-use Rattle.meaning.specs.Column.{end_before, end_ok, ends_ok}
-use Rattle.meaning.proofs.Runs.{before-zero, before-next, end_low, end-far, end-good}
+use Rattle.std.proofs.Common.{◌≡◌, ℕ, ◌-◌, ◌<◌, ◌≤◌, true, length}
+use Rattle.meaning.specs.Column.{end_before, end_ok}
 use Rattle.checked.proofs.check_ends.Given as goal
 
 abbrev pub invariant-loop-i : goal.invariant-loop-i

@@ -1,7 +1,6 @@
 -- `codec::signed64` meets its contract: the bits are those of x, flipped twice where they are high. Assumes nothing.
 use mathlib.Core.Path.{refl}
 use native.Mathlib.Omega.{arith}
-use borrow.Author.Rules.{rules}
 use mir.Syntax.{w64}
 use Rattle.codec.proofs.Signs.{as-signed, flipped-back}
 use Rattle.codec.proofs.signed64.Goals as goal

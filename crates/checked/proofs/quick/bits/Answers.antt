@@ -1,5 +1,5 @@
 -- `checked::bits` meets its contract. Assumes nothing.
-use Rattle.std.proofs.Common.{ℕ, ◌+◌, ◌%◌, ap, ◌∙◌, to_z-of_z, rules}
+use Rattle.std.proofs.Common.{ℕ, ◌+◌, ◌%◌, ap, ◌∙◌, to_z-of_z}
 use Rattle.keys.specs.Key.{key}
 use Rattle.keys.specs.Widths.{half64}
 use Rattle.checked.proofs.quick.bits.Goals as goal

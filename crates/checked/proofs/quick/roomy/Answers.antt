@@ -1,5 +1,5 @@
 -- `checked::roomy` meets its contract. Assumes nothing.
-use Rattle.std.proofs.Common.{◌+◌, ◌-◌, ◌%◌, ℤ, refl, ap, ◌∙◌, to_z-of_z, rules, leb-true}
+use Rattle.std.proofs.Common.{◌+◌, ◌-◌, ◌%◌, ℤ, refl, ap, ◌∙◌, to_z-of_z, leb-true}
 use Rattle.ranges.proofs.Bools.{clash}
 use Rattle.keys.specs.Key.{key}
 use Rattle.keys.specs.Widths.{half64}

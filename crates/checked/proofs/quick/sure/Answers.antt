@@ -1,5 +1,5 @@
 -- `checked::sure` meets its contract: by the room that the start has, or by the exact test. Assumes nothing.
-use Rattle.std.proofs.Common.{◌+◌, ◌-◌, ◌%◌, ℤ, sym, refl, ap, ◌∙◌, to_z-of_z, rules}
+use Rattle.std.proofs.Common.{◌+◌, ◌-◌, ◌%◌, ℤ, sym, refl, ap, ◌∙◌, to_z-of_z}
 use Rattle.ranges.proofs.Bools.{clash}
 use Rattle.keys.specs.Key.{key}
 use Rattle.keys.specs.Widths.{half64}

@@ -1,5 +1,5 @@
 -- `leading::lead_in` meets its contract. Assumes nothing.
-use Rattle.std.proofs.Common.{ap, ◌∙◌, arith, w64, rules}
+use Rattle.std.proofs.Common.{ap, ◌∙◌, arith, w64}
 use Rattle.keys.proofs.Bits.{back}
 use Rattle.loftsplice.specs.Scan.{go_to}
 use Rattle.loftsplice.proofs.ScanCases.{end-in, index-from, seek-goes}
@@ -12,30 +12,30 @@ pub rest_of-rest-requires : goal.rest_of-rest-requires
 rest_of-rest-requires c =
     let o = c.requires.ordered in
     record {
-  index_value = (o.is-start, o.is-end);
-  lies = o.lies;
-  by_index = index-from _ c.args.scan o.good;
-  stood = c.requires.stood;
-}
+      index_value = (o.is-start, o.is-end);
+      lies = o.lies;
+      by_index = index-from _ c.args.scan o.good;
+      stood = c.requires.stood;
+    }
 
 pub seek_spot-found-requires : goal.seek_spot-found-requires
 seek_spot-found-requires c =
     let r = rest-ready c.requires.ordered _ _ _ _ c.rest_of-rest.ensures.index_value_2 c.rest_of-rest.ensures.lies_2 in
     record {
-  steps_value = r.whole;
-  end_bound = omega (arith, r.is-end, end-in _ c.args.scan r.good);
-  end_value = r.rising;
-  lies = r.lies;
-}
+      steps_value = r.whole;
+      end_bound = omega (arith, r.is-end, end-in _ c.args.scan r.good);
+      end_value = r.rising;
+      lies = r.lies;
+    }
 
 pub past-requires : goal.past-requires
 past-requires c =
     let o = c.requires.ordered in
     record {
-  steps_value = o.whole;
-  end_bound = end-in _ c.args.scan o.good;
-  place_value = λ l. c.seek_spot-found.ensures.place_value (rw c.rest_of-rest.ensures.index_value_2.1 l);
-}
+      steps_value = o.whole;
+      end_bound = end-in _ c.args.scan o.good;
+      place_value = λ l. c.seek_spot-found.ensures.place_value (rw c.rest_of-rest.ensures.index_value_2.1 l);
+    }
 
 pub returns-in-Stay : goal.returns-in-Stay
 returns-in-Stay c =

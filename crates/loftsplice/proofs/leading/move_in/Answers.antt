@@ -1,5 +1,5 @@
 -- `leading::move_in` meets its contract. Assumes nothing.
-use Rattle.std.proofs.Common.{w64, rules}
+use Rattle.std.proofs.Common.{w64}
 use Rattle.keys.proofs.Bits.{back}
 use Rattle.loftsplice.proofs.ScanCases.{index-from}
 use Rattle.loftsplice.proofs.LeadCases.{rest-ready, moves_next, moves-seek}
@@ -16,11 +16,11 @@ pub rest_of-rest-requires : goal.rest_of-rest-requires
 rest_of-rest-requires c =
     let o = c.requires.ordered in
     record {
-  index_value = (o.is-start, o.is-end);
-  lies = o.lies;
-  by_index = index-from _ c.args.scan o.good;
-  stood = c.requires.stood;
-}
+      index_value = (o.is-start, o.is-end);
+      lies = o.lies;
+      by_index = index-from _ c.args.scan o.good;
+      stood = c.requires.stood;
+    }
 
 pub seek_in-requires : goal.seek_in-requires
 seek_in-requires c =

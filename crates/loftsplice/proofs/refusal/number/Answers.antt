@@ -1,5 +1,5 @@
 -- `refusal::number` meets its contract: a refusal's number is one more than its place in the enum. Assumes nothing.
-use Rattle.std.proofs.Common.{◌≡◌, ℕ, suc, [], ◌∷◌, sym, refl, ap, ◌∙◌, rules}
+use Rattle.std.proofs.Common.{◌≡◌, ℕ, suc, [], ◌∷◌, sym, refl, ap, ◌∙◌}
 use types.Run.{OneOf}
 use denote.Enum.Declared.{tag_of}
 use Rattle.meaning.specs.contracts.Refusal as R

@@ -1,6 +1,5 @@
 -- `rle::end_before` meets its contract. Assumes nothing.
 use Rattle.meaning.proofs.Runs.{before-zero, before-is}
-use Rattle.std.proofs.Common.{rules}
 use Rattle.loftsplice.proofs.rle.end_before.Goals as goal
 
 pub returns-then-run-eq0 : goal.returns-then-run-eq0

@@ -1,5 +1,5 @@
 -- `rle::is_empty` meets its contract. Assumes nothing.
-use Rattle.std.proofs.Common.{true, false, sym, ◌∙◌, rules, eq-eqb, ne_eqb}
+use Rattle.std.proofs.Common.{true, false, sym, ◌∙◌, eq-eqb, ne_eqb}
 use Rattle.meaning.proofs.Calls.{is-empty-refused, is-empty-is}
 use Rattle.checked.proofs.Told.{was-fine, was-refused}
 use Rattle.loftsplice.proofs.rle.is_empty.Goals as goal

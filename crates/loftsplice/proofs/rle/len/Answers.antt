@@ -1,7 +1,6 @@
 -- `rle::len` meets its contract. Assumes nothing.
 use Rattle.meaning.proofs.Calls.{len-refused, len_is}
 use Rattle.checked.proofs.Told.{was-fine, was-refused}
-use Rattle.std.proofs.Common.{rules}
 use Rattle.loftsplice.proofs.rle.len.Goals as goal
 
 pub returns-in-Refused : goal.returns-in-Refused

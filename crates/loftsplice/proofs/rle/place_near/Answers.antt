@@ -1,5 +1,5 @@
 -- `rle::place_near` meets its contract. Assumes nothing.
-use Rattle.std.proofs.Common.{arith, rules}
+use Rattle.std.proofs.Common.{arith}
 use Rattle.meaning.proofs.Places.{run-here, run-after}
 use Rattle.loftsplice.proofs.rle.place_near.Goals as goal
 

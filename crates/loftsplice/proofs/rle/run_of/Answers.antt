@@ -1,6 +1,6 @@
 -- `rle::run_of` meets its contract: the search's two ends bracket the run. Assumes nothing.
-use Rattle.std.proofs.Common.{◌-◌, arith, rules}
-use Rattle.meaning.proofs.Runs.{Bracket, bracket-start, bracket-up, bracket-met, bracket-lo, run-between}
+use Rattle.std.proofs.Common.{arith}
+use Rattle.meaning.proofs.Runs.{bracket-start, bracket-up, bracket-met, bracket-lo, run-between}
 use Rattle.loftsplice.proofs.rle.run_of.Goals as goal
 
 pub loop-lo-init : goal.loop-lo-init

@@ -1,5 +1,5 @@
-use Rattle.std.proofs.Common.{◌-◌, arith, rules}
-use Rattle.meaning.proofs.Runs.{Bracket, bracket-start, bracket-up, bracket-met, bracket-lo, run-between}
+use Rattle.std.proofs.Common.{◌-◌}
+use Rattle.meaning.proofs.Runs.{Bracket}
 use Rattle.loftsplice.proofs.rle.run_of.Given as goal
 
 abbrev pub invariant-loop-lo : goal.invariant-loop-lo

@@ -1,5 +1,5 @@
 -- `running::ahead_of` meets its contract. Assumes nothing.
-use Rattle.std.proofs.Common.{sym, ap, ◌∙◌, add-one, arith, rules}
+use Rattle.std.proofs.Common.{sym, ap, ◌∙◌, add-one, arith}
 use Rattle.loftsplice.specs.Inner.{ahead}
 use Rattle.loftsplice.proofs.running.ahead_of.Goals as goal
 

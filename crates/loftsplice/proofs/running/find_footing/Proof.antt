@@ -1,5 +1,4 @@
 -- `running::find_footing` meets its contract. Assumes nothing.
-use denote.Slice.{shr_slice_at}
 use Rattle.std.proofs.Common.{◌≡◌, sym, ap, ◌∙◌, rules}
 use borrow.Author.Tests.{not-false}
 use Rattle.ranges.proofs.Bools.{not-no}

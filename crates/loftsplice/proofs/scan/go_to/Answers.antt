@@ -9,10 +9,10 @@ use Rattle.loftsplice.proofs.scan.go_to.Goals as goal
 pub element_at-value-requires : goal.element_at-value-requires
 element_at-value-requires c =
     record {
-  steps_value = c.requires.steps_value;
-  index_bound = omega (arith, c.requires.end_bound, c.if-index-end.true);
-  place_value = c.requires.place_value c.if-index-end.true;
-}
+      steps_value = c.requires.steps_value;
+      index_bound = omega (arith, c.requires.end_bound, c.if-index-end.true);
+      place_value = c.requires.place_value c.if-index-end.true;
+    }
 
 pub returns-then-index-end : goal.returns-then-index-end
 returns-then-index-end c =

@@ -1,5 +1,4 @@
 -- `seek::seek_from` meets its contract. Assumes nothing.
-use denote.Slice.{shr_slice_at}
 use Rattle.std.proofs.Common.{ap, ◌∙◌, to_z-of_z, rules}
 use Rattle.meaning.specs.Naming.{column_now}
 use Rattle.meaning.specs.Column.{sequence_of}

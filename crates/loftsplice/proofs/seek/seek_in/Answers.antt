@@ -9,19 +9,19 @@ use Rattle.loftsplice.proofs.seek.seek_in.Goals as goal
 pub seek_spot-to-requires : goal.seek_spot-to-requires
 seek_spot-to-requires c =
     record {
-  steps_value = c.requires.whole;
-  end_bound = omega (arith, c.requires.is-end, end-in _ c.args.scan c.requires.good);
-  end_value = c.requires.rising;
-  lies = c.requires.lies;
-}
+      steps_value = c.requires.whole;
+      end_bound = omega (arith, c.requires.is-end, end-in _ c.args.scan c.requires.good);
+      end_value = c.requires.rising;
+      lies = c.requires.lies;
+    }
 
 pub go_to-requires : goal.go_to-requires
 go_to-requires c =
     record {
-  steps_value = c.requires.whole;
-  end_bound = end-in _ c.args.scan c.requires.good;
-  place_value = λ l. c.seek_spot-to.ensures.place_value (rw c.requires.is-end l);
-}
+      steps_value = c.requires.whole;
+      end_bound = end-in _ c.args.scan c.requires.good;
+      place_value = λ l. c.seek_spot-to.ensures.place_value (rw c.requires.is-end l);
+    }
 
 pub returns : goal.returns
 returns c =

@@ -1,5 +1,5 @@
 -- `seeking::distance` meets its contract: the patterns' difference, which may wrap, is the distance. Assumes nothing.
-use Rattle.std.proofs.Common.{◌≡◌, ◌+◌, ◌%◌, ap, ◌∙◌, to_z-of_z, rules}
+use Rattle.std.proofs.Common.{◌≡◌, ◌+◌, ◌%◌, ap, ◌∙◌, to_z-of_z}
 use Rattle.codec.specs.Bytes.{of_signed}
 use Rattle.loftsplice.proofs.Distance.{distance_is}
 use Rattle.loftsplice.proofs.seeking.distance.Goals as goal

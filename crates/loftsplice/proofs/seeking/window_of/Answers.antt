@@ -1,5 +1,5 @@
 -- `seeking::window_of` meets its contract. Assumes nothing.
-use Rattle.std.proofs.Common.{refl, arith, rules}
+use Rattle.std.proofs.Common.{refl, arith}
 use Rattle.loftsplice.proofs.seeking.window_of.Goals as goal
 
 pub returns-then-end-start : goal.returns-then-end-start

@@ -1,5 +1,5 @@
 -- `standing::check_none` meets its contract. Assumes nothing.
-use Rattle.std.proofs.Common.{not, sym, ap, ◌∙◌, rules}
+use Rattle.std.proofs.Common.{not, sym, ap, ◌∙◌}
 use mathlib.Core.Option.{none}
 use Rattle.checked.specs.Says.{says_checked}
 use Rattle.loftsplice.specs.declared.scan.Carried.{Carried}

@@ -1,5 +1,4 @@
 -- `standing::check_value` meets its contract. Assumes nothing.
-use denote.Slice.{shr_slice_at}
 use Rattle.std.proofs.Common.{◌≡◌, true, false, not, ℤ, sym, refl, ap, ◌∙◌, w64, of_z, rules}
 use mathlib.Core.Option.{some}
 use Rattle.keys.proofs.Bits.{same}

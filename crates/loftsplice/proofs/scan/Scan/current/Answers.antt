@@ -1,5 +1,5 @@
 -- `Scan::current` meets its contract. Assumes nothing.
-use Rattle.std.proofs.Common.{ℤ, ap, ◌∙◌, w64, rules}
+use Rattle.std.proofs.Common.{ℤ, ap, ◌∙◌, w64}
 use mathlib.Core.Option.{some}
 use Rattle.keys.proofs.Bits.{back}
 use Rattle.meaning.specs.Refusals.{Gives}

@@ -1,5 +1,5 @@
 -- `Scan::narrow` meets its contract. Assumes nothing.
-use Rattle.std.proofs.Common.{◌∙◌, arith, rules}
+use Rattle.std.proofs.Common.{◌∙◌, arith}
 use Rattle.loftsplice.proofs.ScanCases.{narrow-refused, narrow-window, narrow-fresh}
 use Rattle.loftsplice.proofs.scan.Scan.narrow.Goals as goal
 

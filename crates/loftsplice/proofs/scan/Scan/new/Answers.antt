@@ -1,7 +1,6 @@
 -- `Scan::new` meets its contract. Assumes nothing.
 use Rattle.checked.proofs.Told.{was-fine, was-refused}
 use Rattle.loftsplice.proofs.ScanCases.{new-refused, new-ready}
-use Rattle.std.proofs.Common.{rules}
 use Rattle.loftsplice.proofs.scan.Scan.new.Goals as goal
 
 pub returns-in-Refused : goal.returns-in-Refused

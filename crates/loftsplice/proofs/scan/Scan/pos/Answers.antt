@@ -1,6 +1,5 @@
 -- `Scan::pos` meets its contract. Assumes nothing.
 use Rattle.loftsplice.proofs.ScanCases.{pos-refused, pos-is}
-use Rattle.std.proofs.Common.{rules}
 use Rattle.loftsplice.proofs.scan.Scan.pos.Goals as goal
 
 pub returns-in-Refused : goal.returns-in-Refused

@@ -1,5 +1,5 @@
 -- `Scan::reset` meets its contract. Assumes nothing.
-use Rattle.std.proofs.Common.{◌∙◌, rules}
+use Rattle.std.proofs.Common.{◌∙◌}
 use Rattle.loftsplice.proofs.ScanCases.{reset-refused, reset-fresh}
 use Rattle.loftsplice.proofs.scan.Scan.reset.Goals as goal
 
