@@ -117,7 +117,7 @@ module _ (c : tie.After-carried_in-part invariant-loop decreases-loop) where
   abbrev says : Said Word
   says = says_checked c.carried_in-part.result
 
-  turned : Turn (p s') (ks s') (old s') (l st).loop-why.i (l st).loop-why.flags (n st) c.carried_in-part.new.1.1.1.1.0 says
+  turned : Turn (p s') (ks s') (old s') (l st).loop-why.i (l st).loop-why.flags (n st) c.carried_in-part.new.flags says
   turned = turn (p s') (ks s') (old s') s'.requires (l st).loop-why.i (l st).loop-why.flags (l st).loop-why.invariant (n st) st.stretch-n.ensures _ says c.carried_in-part.ensures.0 c.carried_in-part.ensures.1
 
 same_length : tie.Need-shape_of-flags-in-Refused invariant-loop decreases-loop

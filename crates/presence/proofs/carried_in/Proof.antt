@@ -88,7 +88,7 @@ module _ (c : tie.After-mark) where
   abbrev flags : List ℕ
   flags = (s at-run).args.flags.now
 
-  wrote : c.mark.new.1.1.1.0 ≡ after (Gives fine) (flags_of (p at-run).sequence ks) flags
+  wrote : c.mark.new.flags ≡ after (Gives fine) (flags_of (p at-run).sequence ks) flags
   wrote =
       c.mark.ensures
       ∙ flags-marked (p at-run) ks _ at-run.whole-scan.ensures (s at-run).requires.1 _ (replicate 512 (pos 0)) _ _ at-run.seek_run-ran.ensures.0 at-run.seek_run-ran.ensures.1

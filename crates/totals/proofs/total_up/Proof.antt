@@ -53,17 +53,17 @@ module _ (c : tie.After-measure-all) where
   few : length start.args.numbers.now ≤ 256
   few = omega (arith, n-long, start.requires.1.0.few)
 
-  least-there : length start.args.numbers.now ≤ length c.measure-all.new.1.1.1.1.1.0
-  least-there = omega (arith, few, c.measure-all.auto.1.1.1.1.1.0)
+  least-there : length start.args.numbers.now ≤ length c.measure-all.new.leasts
+  least-there = omega (arith, few, c.measure-all.auto.leasts)
 
-  greatest-there : length start.args.numbers.now ≤ length c.measure-all.new.1.1.1.1.1.1.0
-  greatest-there = omega (arith, few, c.measure-all.auto.1.1.1.1.1.1.0)
+  greatest-there : length start.args.numbers.now ≤ length c.measure-all.new.greatests
+  greatest-there = omega (arith, few, c.measure-all.auto.greatests)
 
-  high-there : length start.args.numbers.now ≤ length c.measure-all.new.1.1.1.1.1.1.1.0
-  high-there = omega (arith, few, c.measure-all.auto.1.1.1.1.1.1.1.0)
+  high-there : length start.args.numbers.now ≤ length c.measure-all.new.highs
+  high-there = omega (arith, few, c.measure-all.auto.highs)
 
-  low-there : length start.args.numbers.now ≤ length c.measure-all.new.1.1.1.1.1.1.1.1.0
-  low-there = omega (arith, few, c.measure-all.auto.1.1.1.1.1.1.1.1.0)
+  low-there : length start.args.numbers.now ≤ length c.measure-all.new.lows
+  low-there = omega (arith, few, c.measure-all.auto.lows)
 
   there : {n : ℕ} → length start.args.numbers.now ≤ n → length start.args.from.now ≤ n
   there l = omega (arith, n-long)

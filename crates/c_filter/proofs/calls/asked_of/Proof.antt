@@ -1,6 +1,7 @@
 -- `calls::asked_of` meets its contract. Assumes nothing.
-use mathlib.Core.Path.{◌∙◌}
-use Rattle.filter_interval.specs.Filter.{Call}
+use Rattle.std.proofs.Common.{◌≡◌, ap, ◌∙◌}
+use Rattle.filter_interval.specs.Filter.{Call, handing}
+use Rattle.filter_interval.specs.Asking.{asked_of as asked_by}
 use Rattle.filter_interval.proofs.FilterCases.{bare-same}
 use Rattle.c_filter.specs.Filter.{handed}
 use borrow.Author.Rules.{rules}
@@ -46,7 +47,10 @@ returns-2 : tie.Need-returns
 returns-2 c =
     let at-inputs = c.before in
     let at-upper = at-inputs.before in
-    rw (at-upper.variables_of-lower.ensures, at-upper.variables_of-upper.ensures, at-inputs.inputs_of-inputs.ensures) at c.ask.ensures
+    let s = start at-upper.before.before.before in
+    let same : handing c.args.step c.variables_of-lower.result c.variables_of-upper.result c.inputs_of-inputs.result ≡ call s =
+        rw (at-upper.variables_of-lower.ensures, at-upper.variables_of-upper.ensures, at-inputs.inputs_of-inputs.ensures) in
+    c.ask.ensures ∙ ap (λ (k : Call). asked_by k c.args.filter) same
 
 pub asked_of_spec : {M : Type 1} → statement M
 asked_of_spec = tie.close (tie.spec is-bare-requires ask-bare-requires returns variables-of-requires variables-of-requires-2 inputs-of-requires ask-requires returns-2)
