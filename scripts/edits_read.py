@@ -118,8 +118,11 @@ def first_error(text, crate):
         told = re.match(r'`([^`]+)`: (.*)', ' '.join(says), re.S)
         path = re.sub(r'(/(Proof|Answers|Invariants))?\.antt$', '', at[1].removeprefix('./').removeprefix('proofs/'))
         return Found(path.replace('/', '::'), told[1] if told else '?', told[2] if told else ' '.join(says))
-    left = re.search(rf'^fn {crate}::(\S+): no proof: .*?(`search` did not prove) `([^`]+)`', text, re.M)
-    return Found(left[1], left[3], left[2]) if left else None
+    left = re.search(rf'^fn {crate}::(\S+): no proof: .*?`search` did not prove `([^`]+)`', text, re.M)
+    if not left:
+        return None
+    asked = re.search(rf'^note: `{re.escape(left[2])}` of proofs/{left[1].replace("::", "/")}/Answers\.antt must prove: (.*)', text, re.M)
+    return Found(left[1], left[2], '`search` did not prove ' + (asked[1] if asked else 'it'))
 
 
 def relation(statement):
