@@ -3,7 +3,6 @@ use mathlib.Core.Path.{refl}
 use Rattle.exporting.specs.Says.{says_exported}
 use Rattle.c_bitmap.specs.Bitmaps.{flat_exported}
 use Rattle.c_forms.proofs.Carried.{carried}
-use borrow.Author.Rules.{rules}
 use Rattle.c_bitmap.proofs.flat_exported.Goals as goal
 
 pub returns-in-Bytes : goal.returns-in-Bytes

@@ -3,7 +3,6 @@ use mathlib.Core.Path.{refl}
 use Rattle.importing.specs.Says.{says_imported}
 use Rattle.c_bitmap.specs.Bitmaps.{flat_imported}
 use Rattle.c_forms.proofs.Carried.{carried}
-use borrow.Author.Rules.{rules}
 use Rattle.c_bitmap.proofs.flat_imported.Goals as goal
 
 pub returns-in-Runs : goal.returns-in-Runs

@@ -3,7 +3,6 @@ use mathlib.Core.Path.{refl}
 use Rattle.build.specs.Says.{says_built}
 use Rattle.c_build.specs.Building.{flat_built}
 use Rattle.c_forms.proofs.Carried.{carried}
-use borrow.Author.Rules.{rules}
 use Rattle.c_build.proofs.flat_built.Goals as goal
 
 pub returns-in-Runs : goal.returns-in-Runs

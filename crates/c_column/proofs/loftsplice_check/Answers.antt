@@ -2,7 +2,6 @@
 use Rattle.checked.specs.Says.{says_checked}
 use Rattle.c_forms.specs.Flat.{refusal_in}
 use Rattle.c_forms.proofs.Carried.{carried}
-use borrow.Author.Rules.{rules}
 use Rattle.c_column.proofs.loftsplice_check.Goals as goal
 
 pub returns-in-Fine : goal.returns-in-Fine

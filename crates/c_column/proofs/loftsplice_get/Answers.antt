@@ -5,7 +5,6 @@ use Rattle.loftsplice.specs.Says.{says_got}
 use Rattle.c_forms.specs.Answer.{flat_answer}
 use Rattle.c_column.specs.Column.{answered}
 use Rattle.c_forms.proofs.Carried.{carried}
-use borrow.Author.Rules.{rules}
 use Rattle.c_column.proofs.loftsplice_get.Goals as goal
 
 pub returns-in-Value : goal.returns-in-Value

@@ -2,7 +2,6 @@
 use Rattle.loftsplice.specs.Says.{says_emptiness}
 use Rattle.c_column.specs.Column.{flat_emptiness}
 use Rattle.c_forms.proofs.Carried.{carried}
-use borrow.Author.Rules.{rules}
 use Rattle.c_column.proofs.loftsplice_is_empty.Goals as goal
 
 pub returns-in-Empty : goal.returns-in-Empty

@@ -2,7 +2,6 @@
 use Rattle.loftsplice.specs.Says.{says_length}
 use Rattle.c_column.specs.Column.{flat_length}
 use Rattle.c_forms.proofs.Carried.{carried}
-use borrow.Author.Rules.{rules}
 use Rattle.c_column.proofs.loftsplice_len.Goals as goal
 
 pub returns-in-Is : goal.returns-in-Is

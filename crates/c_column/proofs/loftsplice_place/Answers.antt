@@ -2,7 +2,6 @@
 use Rattle.loftsplice.specs.Says.{says_placed}
 use Rattle.c_column.specs.Column.{flat_place}
 use Rattle.c_forms.proofs.Carried.{carried}
-use borrow.Author.Rules.{rules}
 use Rattle.c_column.proofs.loftsplice_place.Goals as goal
 
 pub returns-in-At : goal.returns-in-At

@@ -1,6 +1,5 @@
 -- `loftsplice_filter_seek` meets its contract. Assumes nothing.
 use mir.Facts.{to_z-of_z}
-use borrow.Author.Rules.{rules}
 use Rattle.c_filter_seek.proofs.loftsplice_filter_seek.Goals as goal
 
 pub returns : goal.returns

@@ -3,7 +3,6 @@ use mathlib.Core.Path.{refl}
 use Rattle.loftsplice.specs.Listing.{says_listed}
 use Rattle.c_listing.specs.Listing.{flat_listed}
 use Rattle.c_forms.proofs.Carried.{carried}
-use borrow.Author.Rules.{rules}
 use Rattle.c_listing.proofs.flat_listed.Goals as goal
 
 pub returns-in-Sum : goal.returns-in-Sum

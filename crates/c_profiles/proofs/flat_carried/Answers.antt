@@ -3,7 +3,6 @@ use mathlib.Core.Path.{refl}
 use Rattle.profiles.specs.Says.{says_field}
 use Rattle.c_profiles.specs.Profiles.{flat_carried}
 use Rattle.c_forms.proofs.Carried.{carried}
-use borrow.Author.Rules.{rules}
 use Rattle.c_profiles.proofs.flat_carried.Goals as goal
 
 pub returns-in-Yes : goal.returns-in-Yes

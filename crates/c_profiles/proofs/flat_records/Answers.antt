@@ -3,7 +3,6 @@ use mathlib.Core.Path.{refl}
 use Rattle.profiles.specs.Says.{says_listed}
 use Rattle.c_profiles.specs.Profiles.{flat_records}
 use Rattle.c_forms.proofs.Carried.{carried}
-use borrow.Author.Rules.{rules}
 use Rattle.c_profiles.proofs.flat_records.Goals as goal
 
 pub returns-in-Records : goal.returns-in-Records

@@ -3,7 +3,6 @@ use mathlib.Core.Path.{sym, ap, ◌∙◌}
 use mathlib.Core.Logic.{⊎_elim}
 use Rattle.c_profiles.specs.Profiles.{flat_carried}
 use Rattle.c_profiles.proofs.Bytes.{kind, carries-16}
-use borrow.Author.Rules.{rules}
 use Rattle.c_profiles.proofs.loftsplice_carries.Goals as goal
 
 pub returns : goal.returns

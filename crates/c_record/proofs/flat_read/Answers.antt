@@ -3,7 +3,6 @@ use mathlib.Core.Path.{refl}
 use Rattle.record.specs.Says.{says_read}
 use Rattle.c_record.specs.Stored.{flat_read}
 use Rattle.c_forms.proofs.Carried.{carried}
-use borrow.Author.Rules.{rules}
 use Rattle.c_record.proofs.flat_read.Goals as goal
 
 pub returns-in-Runs : goal.returns-in-Runs

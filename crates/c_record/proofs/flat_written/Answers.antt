@@ -3,7 +3,6 @@ use mathlib.Core.Path.{refl}
 use Rattle.record.specs.Says.{says_written}
 use Rattle.c_record.specs.Stored.{flat_written}
 use Rattle.c_forms.proofs.Carried.{carried}
-use borrow.Author.Rules.{rules}
 use Rattle.c_record.proofs.flat_written.Goals as goal
 
 pub returns-in-Bytes : goal.returns-in-Bytes

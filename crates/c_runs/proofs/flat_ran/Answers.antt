@@ -1,5 +1,5 @@
 -- `flat_ran` meets its contract. Assumes nothing.
-use borrow.Author.Rules.{rules}
+
 use Rattle.c_runs.proofs.flat_ran.Goals as goal
 
 pub returns-in-Values : goal.returns-in-Values

@@ -1,5 +1,5 @@
 -- `flat_moved` meets its contract. Assumes nothing.
-use borrow.Author.Rules.{rules}
+
 use Rattle.c_scan.proofs.flat_moved.Goals as goal
 
 pub returns-in-Refused : goal.returns-in-Refused

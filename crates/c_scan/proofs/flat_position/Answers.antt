@@ -3,7 +3,6 @@ use mathlib.Core.Path.{refl}
 use Rattle.loftsplice.specs.Scan.{says_position}
 use Rattle.c_scan.specs.Scan.{flat_position}
 use Rattle.c_forms.proofs.Carried.{carried}
-use borrow.Author.Rules.{rules}
 use Rattle.c_scan.proofs.flat_position.Goals as goal
 
 pub returns-in-Index : goal.returns-in-Index

@@ -2,7 +2,6 @@
 use Rattle.loftsplice.specs.Scan.{says_made}
 use Rattle.c_scan.specs.Scan.{flat_new_scan}
 use Rattle.c_forms.proofs.Carried.{carried}
-use borrow.Author.Rules.{rules}
 use Rattle.c_scan.proofs.loftsplice_scan_new.Goals as goal
 
 pub returns-in-Ready : goal.returns-in-Ready

@@ -2,7 +2,6 @@
 use mathlib.Core.Path.{sym, ap, ◌∙◌}
 use Rattle.c_scan.specs.Scan.{flat_position}
 use Rattle.c_scan.proofs.Calls.{asked, not-asked}
-use borrow.Author.Rules.{rules}
 use Rattle.c_scan.proofs.loftsplice_scan_pos.Goals as goal
 
 pub returns-then-is_scan : goal.returns-then-is_scan

@@ -1,7 +1,6 @@
 -- `loftsplice_scan_reset` meets its contract. Assumes nothing.
 use mathlib.Core.Path.{sym, ◌∙◌}
 use Rattle.c_scan.proofs.Calls.{called, not-called}
-use borrow.Author.Rules.{rules}
 use Rattle.c_scan.proofs.loftsplice_scan_reset.Goals as goal
 
 pub returns-then-is_scan : goal.returns-then-is_scan

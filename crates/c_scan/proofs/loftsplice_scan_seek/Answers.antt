@@ -2,7 +2,6 @@
 use mathlib.Core.Path.{sym, ◌∙◌}
 use mir.Facts.{to_z-of_z}
 use Rattle.c_scan.proofs.Calls.{called, not-called}
-use borrow.Author.Rules.{rules}
 use Rattle.c_scan.proofs.loftsplice_scan_seek.Goals as goal
 
 pub returns-then-is_scan : goal.returns-then-is_scan

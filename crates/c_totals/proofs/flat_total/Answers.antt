@@ -2,7 +2,6 @@
 use Rattle.c_totals.proofs.Flats.{flat-none, flat-are}
 use mir.Syntax.{w64}
 use Rattle.keys.proofs.Bits.{back}
-use borrow.Author.Rules.{rules}
 use Rattle.c_totals.proofs.flat_total.Goals as goal
 
 pub returns-in-None : goal.returns-in-None

@@ -3,7 +3,6 @@ use mathlib.Core.Path.{refl, ◌∙◌}
 use Rattle.totals.specs.Says.{says_totalled}
 use Rattle.c_totals.specs.Totals.{flat_totalled}
 use Rattle.c_forms.proofs.Carried.{carried}
-use borrow.Author.Rules.{rules}
 use Rattle.c_totals.proofs.flat_totalled.Goals as goal
 
 pub returns-in-All : goal.returns-in-All

@@ -3,7 +3,6 @@ use mathlib.Core.Path.{sym, ap, ◌∙◌}
 use Rattle.meaning.specs.Naming.{column_now}
 use Rattle.loftsplice.specs.Running.{says_footed}
 use Rattle.presence.proofs.Told.{foot-refused, foot-given}
-use borrow.Author.Rules.{rules}
 use Rattle.presence.proofs.no_room.Goals as goal
 
 pub returns-in-Refused : goal.returns-in-Refused

@@ -2,7 +2,6 @@
 use mathlib.Core.Path.{ap}
 use Rattle.meaning.proofs.Runs.{before-zero, before-is}
 use Rattle.loftsplice.specs.Scan.{fresh}
-use borrow.Author.Rules.{rules}
 use Rattle.presence.proofs.whole.Goals as goal
 
 pub returns-then-ends-eq0 : goal.returns-then-ends-eq0

@@ -4,7 +4,6 @@ use native.Mathlib.Omega.{arith}
 use Rattle.totals.specs.declared.Edges.TheVariants.{Are}
 use Rattle.totals.proofs.Bits.{key_back}
 use Rattle.totals.proofs.Lists.{holds-edges, no_edges}
-use borrow.Author.Rules.{rules}
 use Rattle.totals.proofs.edges_of.Goals as goal
 
 pub returns-then-count-eq0 : goal.returns-then-count-eq0

@@ -12,7 +12,7 @@ pub returns-then-greatests-n : goal.returns-then-greatests-n
 returns-then-greatests-n c = short_on _ _ _ _ c.if-counts-n.false (short_on _ _ _ _ c.if-leasts-n.false (short-here _ _ _ c.if-greatests-n.true))
 
 pub returns-then-highs-n : goal.returns-then-highs-n
-returns-then-highs-n c =    short_on _ _ _ _ c.if-counts-n.false (short_on _ _ _ _ c.if-leasts-n.false (short_on _ _ _ _ c.if-greatests-n.false (short-here _ _ _ c.if-highs-n.true)))
+returns-then-highs-n c = short_on _ _ _ _ c.if-counts-n.false (short_on _ _ _ _ c.if-leasts-n.false (short_on _ _ _ _ c.if-greatests-n.false (short-here _ _ _ c.if-highs-n.true)))
 
 pub returns : goal.returns
-returns c =    short_on _ _ _ _ c.if-counts-n.false (short_on _ _ _ _ c.if-leasts-n.false (short_on _ _ _ _ c.if-greatests-n.false (short_on _ _ _ _ c.if-highs-n.false (short-last _ _))))
+returns c = short_on _ _ _ _ c.if-counts-n.false (short_on _ _ _ _ c.if-leasts-n.false (short_on _ _ _ _ c.if-greatests-n.false (short_on _ _ _ _ c.if-highs-n.false (short-last _ _))))

@@ -49,7 +49,7 @@ returns-2 c =
     let at-upper = at-inputs.before in
     let s = start at-upper.before.before.before in
     let same : handing c.args.step c.variables_of-lower.result c.variables_of-upper.result c.inputs_of-inputs.result ≡ call s =
-        rw (at-upper.variables_of-lower.ensures, at-upper.variables_of-upper.ensures, at-inputs.inputs_of-inputs.ensures) in
+    rw (at-upper.variables_of-lower.ensures, at-upper.variables_of-upper.ensures, at-inputs.inputs_of-inputs.ensures) in
     c.ask.ensures ∙ ap (λ (k : Call). asked_by k c.args.filter) same
 
 pub asked_of_spec : {M : Type 1} → statement M

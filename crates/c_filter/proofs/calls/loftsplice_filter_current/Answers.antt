@@ -2,7 +2,6 @@
 use mathlib.Core.Path.{sym, ap, ◌∙◌}
 use Rattle.c_forms.specs.Answer.{flat_answer}
 use Rattle.c_filter.proofs.Filters.{asked, not-asked}
-use borrow.Author.Rules.{rules}
 use Rattle.c_filter.proofs.calls.loftsplice_filter_current.Goals as goal
 
 pub returns-then-is_filter : goal.returns-then-is_filter

@@ -1,7 +1,6 @@
 -- `calls::loftsplice_filter_new` meets its contract. Assumes nothing.
 use mathlib.Core.Path.{sym, ap, ◌∙◌}
 use Rattle.c_filter.specs.Filter.{flat_new_filter, ask_fit}
-use borrow.Author.Rules.{rules}
 use Rattle.c_filter.proofs.calls.loftsplice_filter_new.Goals as goal
 
 pub returns-then-is_fit : goal.returns-then-is_fit

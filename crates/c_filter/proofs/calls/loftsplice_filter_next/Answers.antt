@@ -1,5 +1,5 @@
 -- `calls::loftsplice_filter_next` meets its contract. Assumes nothing.
-use borrow.Author.Rules.{rules}
+
 use Rattle.c_filter.proofs.calls.loftsplice_filter_next.Goals as goal
 
 pub returns : goal.returns

@@ -1,7 +1,6 @@
 -- `calls::loftsplice_filter_reset` meets its contract. Assumes nothing.
 use mathlib.Core.Path.{sym, ◌∙◌}
 use Rattle.c_filter.specs.Filter.{flat_reset}
-use borrow.Author.Rules.{rules}
 use Rattle.c_filter.proofs.calls.loftsplice_filter_reset.Goals as goal
 
 pub returns-then-is_filter : goal.returns-then-is_filter

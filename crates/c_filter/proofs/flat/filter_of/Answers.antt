@@ -1,5 +1,5 @@
 -- `flat::filter_of` meets its contract. Assumes nothing.
-use borrow.Author.Rules.{rules}
+
 use Rattle.c_filter.proofs.flat.filter_of.Goals as goal
 
 pub returns : goal.returns

@@ -1,5 +1,5 @@
 -- `flat::flat_filter` meets its contract. Assumes nothing.
-use borrow.Author.Rules.{rules}
+
 use Rattle.c_filter.proofs.flat.flat_filter.Goals as goal
 
 pub returns-in-Before : goal.returns-in-Before

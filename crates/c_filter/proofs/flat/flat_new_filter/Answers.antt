@@ -5,7 +5,6 @@ use Prim.Native.Nat.{ℕ}
 use Rattle.filter_interval.specs.Filter.{says_fitted}
 use Rattle.c_filter.specs.Filter.{flat_new_filter}
 use Rattle.c_forms.proofs.Carried.{carried}
-use borrow.Author.Rules.{rules}
 use Rattle.c_filter.proofs.flat.flat_new_filter.Goals as goal
 
 pub returns-in-Ready : goal.returns-in-Ready

@@ -1,5 +1,5 @@
 -- `flat::flat_sifted` meets its contract. Assumes nothing.
-use borrow.Author.Rules.{rules}
+
 use Rattle.c_filter.proofs.flat.flat_sifted.Goals as goal
 
 pub returns-in-Refused : goal.returns-in-Refused

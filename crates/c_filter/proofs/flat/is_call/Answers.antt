@@ -2,7 +2,6 @@
 use mathlib.Core.Path.{sym, ◌∙◌}
 use borrow.Author.Tests.{not-true, not-false}
 use Rattle.c_filter.specs.Filter.{good_lists}
-use borrow.Author.Rules.{rules}
 use Rattle.c_filter.proofs.flat.is_call.Goals as goal
 
 pub returns-then-not-is_filter : goal.returns-then-not-is_filter

@@ -1,6 +1,5 @@
 -- `flat::is_fit` meets its contract. Assumes nothing.
 use mathlib.Core.Path.{sym, ◌∙◌}
-use borrow.Author.Rules.{rules}
 use Rattle.c_filter.proofs.flat.is_fit.Goals as goal
 
 pub returns-then-is_scan : goal.returns-then-is_scan

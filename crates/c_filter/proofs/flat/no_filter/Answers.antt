@@ -1,5 +1,5 @@
 -- `flat::no_filter` meets its contract. Assumes nothing.
-use borrow.Author.Rules.{rules}
+
 use Rattle.c_filter.proofs.flat.no_filter.Goals as goal
 
 pub returns : goal.returns

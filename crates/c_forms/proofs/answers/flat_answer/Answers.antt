@@ -5,7 +5,6 @@ use Rattle.keys.proofs.Bits.{back}
 use Rattle.loftsplice.specs.Scan.{says_answer}
 use Rattle.c_forms.specs.Answer.{flat_answer}
 use Rattle.c_forms.proofs.Carried.{carried}
-use borrow.Author.Rules.{rules}
 use Rattle.c_forms.proofs.answers.flat_answer.Goals as goal
 
 pub returns-in-Value : goal.returns-in-Value

@@ -1,13 +1,8 @@
 use Prim.Native.Nat.{◌-◌, ◌≤◌}
-use mathlib.Core.Path.{◌≡◌, refl, sym, ◌∙◌}
-use native.Mathlib.Omega.{arith}
-use native.Mathlib.Numerals.{add-one}
+use mathlib.Core.Path.{◌≡◌}
 use lib.ListN.{length, drop}
-use borrow.Author.Tests.{le-leb, lt-leb}
 use Rattle.ranges.specs.Ranges.{every}
 use Rattle.c_forms.specs.Limits.{between}
-use Rattle.c_forms.proofs.Lists.{every_here, every-not, every-end}
-use borrow.Author.Rules.{rules}
 use Rattle.c_forms.proofs.limits.all_between.Given as goal
 
 abbrev pub invariant-loop-i : goal.invariant-loop-i

@@ -1,7 +1,6 @@
 -- `limits::are_bounds` meets its contract. Assumes nothing.
 use mathlib.Core.Path.{sym, ◌∙◌}
 use borrow.Author.Tests.{not-true, not-false}
-use borrow.Author.Rules.{rules}
 use Rattle.c_forms.proofs.limits.are_bounds.Goals as goal
 
 pub returns-then-not-is_mode : goal.returns-then-not-is_mode

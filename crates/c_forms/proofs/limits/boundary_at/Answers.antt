@@ -1,7 +1,6 @@
 -- `limits::boundary_at` meets its contract. Assumes nothing.
 use native.Mathlib.Omega.{arith}
 use lib.ListN.{get_or-eq_default}
-use borrow.Author.Rules.{rules}
 use Rattle.c_forms.proofs.limits.boundary_at.Goals as goal
 
 pub overflow_cast-kinds : goal.overflow_cast-kinds

@@ -1,12 +1,10 @@
 -- `limits::bounds_of` meets its contract. The loop's invariant: the places passed are filled. Assumes nothing.
-use Prim.Native.Nat.{◌-◌}
+
 use mathlib.Core.Path.{refl}
 use native.Mathlib.Omega.{arith}
 use mir.Syntax.{w64}
 use Rattle.keys.proofs.Bits.{back}
-use Rattle.c_forms.specs.Limits.{bound_at}
-use Rattle.c_forms.proofs.Lists.{Filling, filling-start, filling-more, filling-all}
-use borrow.Author.Rules.{rules}
+use Rattle.c_forms.proofs.Lists.{filling-start, filling-more, filling-all}
 use Rattle.c_forms.proofs.limits.bounds_of.Goals as goal
 
 pub loop-i-init : goal.loop-i-init

@@ -1,7 +1,6 @@
 -- `limits::flat_limit` meets its contract. Assumes nothing.
 use mir.Syntax.{w64}
 use Rattle.keys.proofs.Bits.{back}
-use borrow.Author.Rules.{rules}
 use Rattle.c_forms.proofs.limits.flat_limit.Goals as goal
 
 pub returns-in-Free : goal.returns-in-Free

@@ -3,7 +3,6 @@ use borrow.Author.Tests.{eq-eqb, ne_eqb}
 use lib.ListN.{get_or-eq_default}
 use mir.Syntax.{w64}
 use Rattle.keys.proofs.Bits.{back}
-use borrow.Author.Rules.{rules}
 use Rattle.c_forms.proofs.limits.input_at.Goals as goal
 
 pub returns-then-found-i : goal.returns-then-found-i

@@ -1,7 +1,6 @@
 -- `limits::is_paired` meets its contract. Assumes nothing.
 use borrow.Author.Tests.{eq-eqb, ne_eqb}
 use Rattle.c_forms.specs.Limits.{paired}
-use borrow.Author.Rules.{rules}
 use Rattle.c_forms.proofs.limits.is_paired.Goals as goal
 
 pub returns-then-count-numbers : goal.returns-then-count-numbers

@@ -2,7 +2,6 @@
 use borrow.Author.Tests.{eq-eqb, ne_eqb}
 use mir.Syntax.{w64}
 use Rattle.keys.proofs.Bits.{back}
-use borrow.Author.Rules.{rules}
 use Rattle.c_forms.proofs.limits.limit_of.Goals as goal
 
 pub returns-then-kind-eq0 : goal.returns-then-kind-eq0

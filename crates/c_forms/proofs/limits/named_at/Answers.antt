@@ -1,7 +1,6 @@
 -- `limits::named_at` meets its contract. Assumes nothing.
 use mathlib.Core.Path.{sym}
 use lib.ListN.{get_or-eq_default}
-use borrow.Author.Rules.{rules}
 use Rattle.c_forms.proofs.limits.named_at.Goals as goal
 
 pub returns-else-i-inputs : goal.returns-else-i-inputs

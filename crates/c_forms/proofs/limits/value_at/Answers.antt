@@ -4,7 +4,6 @@ use lib.IntN.{pos}
 use lib.ListN.{get_or-eq_default}
 use mir.Syntax.{w64}
 use Rattle.keys.proofs.Bits.{back}
-use borrow.Author.Rules.{rules}
 use Rattle.c_forms.proofs.limits.value_at.Goals as goal
 
 pub returns-then-i-values : goal.returns-then-i-values

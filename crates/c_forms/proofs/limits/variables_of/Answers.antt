@@ -1,10 +1,8 @@
 -- `limits::variables_of` meets its contract. The loop's invariant: the places passed are filled. Assumes nothing.
-use Prim.Native.Nat.{◌-◌}
+
 use mathlib.Core.Path.{refl}
 use native.Mathlib.Omega.{arith}
-use Rattle.c_forms.specs.Limits.{variable_at}
-use Rattle.c_forms.proofs.Lists.{Filling, filling-start, filling-more, filling-all}
-use borrow.Author.Rules.{rules}
+use Rattle.c_forms.proofs.Lists.{filling-start, filling-more, filling-all}
 use Rattle.c_forms.proofs.limits.variables_of.Goals as goal
 
 pub loop-i-init : goal.loop-i-init

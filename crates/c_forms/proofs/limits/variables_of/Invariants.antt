@@ -1,9 +1,6 @@
 use Prim.Native.Nat.{◌-◌}
-use mathlib.Core.Path.{refl}
-use native.Mathlib.Omega.{arith}
 use Rattle.c_forms.specs.Limits.{variable_at}
-use Rattle.c_forms.proofs.Lists.{Filling, filling-start, filling-more, filling-all}
-use borrow.Author.Rules.{rules}
+use Rattle.c_forms.proofs.Lists.{Filling}
 use Rattle.c_forms.proofs.limits.variables_of.Given as goal
 
 abbrev pub invariant-loop-i : goal.invariant-loop-i

@@ -1,7 +1,6 @@
 -- `scans::flat_parts` meets its contract. Assumes nothing.
 use mir.Syntax.{w64}
 use Rattle.keys.proofs.Bits.{back}
-use borrow.Author.Rules.{rules}
 use Rattle.c_forms.proofs.scans.flat_parts.Goals as goal
 
 pub returns-in-Value : goal.returns-in-Value

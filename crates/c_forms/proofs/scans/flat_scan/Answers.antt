@@ -1,5 +1,5 @@
 -- `scans::flat_scan` meets its contract. Assumes nothing.
-use borrow.Author.Rules.{rules}
+
 use Rattle.c_forms.proofs.scans.flat_scan.Goals as goal
 
 pub returns-in-Fresh : goal.returns-in-Fresh

@@ -1,7 +1,6 @@
 -- `scans::is_scan` meets its contract. Assumes nothing.
 use mathlib.Core.Path.{sym, ◌∙◌}
 use Rattle.c_forms.specs.Scan.{good_scan}
-use borrow.Author.Rules.{rules}
 use Rattle.c_forms.proofs.scans.is_scan.Goals as goal
 
 pub returns-then-is_state : goal.returns-then-is_state

@@ -1,7 +1,6 @@
 -- `scans::scan_of` meets its contract. Assumes nothing.
 use mir.Syntax.{w64}
 use Rattle.keys.proofs.Bits.{back}
-use borrow.Author.Rules.{rules}
 use Rattle.c_forms.proofs.scans.scan_of.Goals as goal
 
 pub returns : goal.returns

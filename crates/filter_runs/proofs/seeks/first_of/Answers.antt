@@ -1,6 +1,5 @@
 -- `seeks::first_of` meets its contract. Assumes nothing.
 use Rattle.filter_runs.proofs.SeekCases.{nothing-first}
-use borrow.Author.Rules.{rules}
 use Rattle.filter_runs.proofs.seeks.first_of.Goals as goal
 
 pub returns-then-targets-eq0 : goal.returns-then-targets-eq0

@@ -3,7 +3,6 @@ use Prim.Native.Nat.{◌-◌}
 use native.Mathlib.Omega.{arith}
 use native.Mathlib.Nat.{div-le_self}
 use Rattle.profiles.proofs.Strips.{below_none, below_all, below-some}
-use borrow.Author.Rules.{rules}
 use Rattle.profiles.proofs.parts.below.Goals as goal
 
 pub returns-then-x-first : goal.returns-then-x-first

@@ -6,7 +6,6 @@ use Rattle.meaning.specs.Naming.{column_now}
 use Rattle.meaning.specs.Column.{sequence_of}
 use Rattle.recorded.specs.Records.{carries_record}
 use Rattle.profiles.proofs.Numbers.{numbers-length, counts-add, others-count}
-use borrow.Author.Rules.{rules}
 use Rattle.profiles.proofs.parts.count_sought.Goals as goal
 
 pub returns-then-here : goal.returns-then-here

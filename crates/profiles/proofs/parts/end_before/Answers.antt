@@ -1,6 +1,5 @@
 -- `parts::end_before` meets its contract. Assumes nothing.
 use Rattle.meaning.proofs.Runs.{before-zero, before-is}
-use borrow.Author.Rules.{rules}
 use Rattle.profiles.proofs.parts.end_before.Goals as goal
 
 pub returns-then-run-eq0 : goal.returns-then-run-eq0

@@ -3,7 +3,6 @@ use mathlib.Core.Path.{sym, ◌∙◌}
 use native.Mathlib.Numerals.{add-one}
 use native.Mathlib.Omega.{arith}
 use Rattle.profiles.proofs.Filling.{beyond-none, beyond-some, some-of}
-use borrow.Author.Rules.{rules}
 use Rattle.profiles.proofs.writing.beyond.Goals as goal
 
 pub returns-then-n-eq0 : goal.returns-then-n-eq0

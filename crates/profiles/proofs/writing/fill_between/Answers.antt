@@ -3,7 +3,6 @@ use mathlib.Core.Path.{◌∙◌}
 use native.Mathlib.Omega.{arith}
 use lib.ListN.{length}
 use Rattle.profiles.proofs.Filling.{nothing-between, two-between, one-wide}
-use borrow.Author.Rules.{rules}
 use Rattle.profiles.proofs.writing.fill_between.Goals as goal
 
 pub returns-then-step-eq1 : goal.returns-then-step-eq1

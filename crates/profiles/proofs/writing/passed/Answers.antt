@@ -4,7 +4,6 @@ use native.Mathlib.Omega.{arith}
 use Prim.Native.Nat.{◌-◌}
 use lib.ListN.{length}
 use Rattle.profiles.proofs.Filling.{past-none, past-long, past-few, some-of}
-use borrow.Author.Rules.{rules}
 use Rattle.profiles.proofs.writing.passed.Goals as goal
 
 pub returns-then-n-eq0 : goal.returns-then-n-eq0

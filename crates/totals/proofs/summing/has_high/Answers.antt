@@ -4,7 +4,6 @@ use native.Mathlib.Omega.{arith}
 use lib.Dec.{ltb}
 use Prim.Native.Nat.{◌-◌}
 use Rattle.totals.proofs.Highs.{units-below, units-tell}
-use borrow.Author.Rules.{rules}
 use Rattle.totals.proofs.summing.has_high.Goals as goal
 
 pub returns-then-all-count : goal.returns-then-all-count

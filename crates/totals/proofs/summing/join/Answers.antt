@@ -1,7 +1,6 @@
 -- `summing::join` meets its contract. Assumes nothing.
 use mathlib.Core.Path.{refl}
 use Rattle.totals.proofs.Lists.{holds-join}
-use borrow.Author.Rules.{rules}
 use Rattle.totals.proofs.summing.join.Goals as goal
 
 pub returns : goal.returns

@@ -2,7 +2,6 @@
 use mathlib.Core.Path.{refl}
 use native.Mathlib.Omega.{arith}
 use Rattle.totals.proofs.Middle.{odd-le, low-le, high_le, part-lt, top-fits, top-exact}
-use borrow.Author.Rules.{rules}
 use Rattle.totals.proofs.summing.spread.Goals as goal
 
 pub overflow_mul-part : goal.overflow_mul-part

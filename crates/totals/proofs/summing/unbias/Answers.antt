@@ -1,6 +1,5 @@
 -- `summing::unbias` meets its contract. Assumes nothing.
 use Rattle.totals.proofs.Bits.{unbias-low, unbias-high}
-use borrow.Author.Rules.{rules}
 use Rattle.totals.proofs.summing.unbias.Goals as goal
 
 pub returns-then-k-lt9223372036854775808 : goal.returns-then-k-lt9223372036854775808

@@ -1,7 +1,5 @@
 use Prim.Native.Nat.{◌-◌}
-use native.Mathlib.Omega.{arith}
-use Rattle.meaning.proofs.Runs.{Bracket, bracket-start, bracket-up, bracket-down, bracket-met}
-use borrow.Author.Rules.{rules}
+use Rattle.meaning.proofs.Runs.{Bracket}
 use Rattle.totals.proofs.walking.run_of.Given as goal
 
 abbrev pub invariant-loop-lo : goal.invariant-loop-lo

@@ -1,9 +1,9 @@
 -- `writing::write_all` meets its contract: an output after the other. Assumes nothing.
-use borrow.Author.Rules.{rules}
+
 use Rattle.totals.proofs.writing.write_all.Goals as goal
 
 pub returns : goal.returns
-returns c =    record {
+returns c = record {
   leaves = c.put.ensures;
   leaves_2 = c.put_held.ensures;
   leaves_3 = c.put_held-2.ensures;
