@@ -1,7 +1,7 @@
 -- "the least, the greatest": they are elements, and none is smaller or larger; they are the only such; there are none exactly if there is no element.
 -- That those of a stretch of a run are at its ends is `stretch-holds` of totals Stretches. Assumes nothing.
 use Prim.Native.Nat.{ℕ}
-use mathlib.Core.Path.{◌≡◌, refl, sym, ap, ap₂, ◌∙◌}
+use mathlib.Core.Path.{◌≡◌, refl, sym, ap, subst, ap₂, ◌∙◌}
 use mathlib.Core.Bool.{false}
 use mathlib.Core.List.{List, [], ◌∷◌, ◌++◌}
 use mathlib.Core.Logic.{◌⊎◌, inl, inr, ⊎_elim}
@@ -50,11 +50,11 @@ bounding-more x xs l g b = record {
   where
     in-lesser : (lesser x l ≡ x) ⊎ (lesser x l ≡ l) → In (lesser x l) (x ∷ xs)
     in-lesser (inl e) = inl e
-    in-lesser (inr e) = inr (rw e b.least-in)
+    in-lesser (inr e) = inr (subst (λ (z : ℤ). In z xs) (sym e) b.least-in)
 
     in-greater : (greater x g ≡ x) ⊎ (greater x g ≡ g) → In (greater x g) (x ∷ xs)
     in-greater (inl e) = inl e
-    in-greater (inr e) = inr (rw e b.greatest-in)
+    in-greater (inr e) = inr (subst (λ (z : ℤ). In z xs) (sym e) b.greatest-in)
 
     low : (y : ℤ) → In y (x ∷ xs) → lt_z y (lesser x l) ≡ false
     low y (inl e) = rw e (lesser-left x l)

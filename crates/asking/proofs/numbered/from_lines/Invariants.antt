@@ -1,0 +1,9 @@
+-- `asking::numbered::from_lines` ends. Assumes nothing.
+use Rattle.std.proofs.Common.{rules}
+use Rattle.asking.proofs.numbered.from_lines.Given as goal
+
+abbrev pub invariant-loop-turns : goal.invariant-loop-turns
+invariant-loop-turns l = Unit {0}
+
+abbrev pub decreases-loop-turns : goal.decreases-loop-turns
+decreases-loop-turns l = l.turns

@@ -1,0 +1,17 @@
+-- `examples_listings::listing::within_by` lends parts that are there. Assumes nothing.
+use native.Mathlib.Omega.{arith}
+use lib.ListN.{length-take}
+use borrow.Author.Rules.{rules}
+use Rattle.examples_listings.proofs.listing.within_by.Goals as goal
+
+pub slice_bounds-into-end : goal.slice_bounds-into-end
+slice_bounds-into-end c = simp length-take (omega arith)
+
+pub slice_bounds-into-end-2 : goal.slice_bounds-into-end-2
+slice_bounds-into-end-2 c = simp length-take (omega arith)
+
+pub slice_bounds-into-end-3 : goal.slice_bounds-into-end-3
+slice_bounds-into-end-3 c = simp length-take (omega arith)
+
+pub slice_bounds-into-end-4 : goal.slice_bounds-into-end-4
+slice_bounds-into-end-4 c = simp length-take (omega arith)
