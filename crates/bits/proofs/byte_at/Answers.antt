@@ -2,7 +2,6 @@
 use mathlib.Core.Path.{refl, sym}
 use native.Mathlib.Omega.{arith}
 use Rattle.bits.proofs.Words.{get_d_past}
-use borrow.Author.Rules.{rules}
 use Rattle.bits.proofs.byte_at.Goals as goal
 
 pub overflow_cast-result : goal.overflow_cast-result

@@ -7,7 +7,6 @@ use lib.Dec.{eqb}
 use lib.ListN.{get_or}
 use Rattle.bits.specs.Bitmap.{present}
 use Rattle.bits.proofs.Digits.{tested}
-use borrow.Author.Rules.{rules}
 use Rattle.bits.proofs.is_present.Goals as goal
 
 pub overflow_shr-result : goal.overflow_shr-result

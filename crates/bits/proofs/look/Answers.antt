@@ -1,7 +1,6 @@
 -- `look` meets its contract. Assumes nothing.
 use Prim.Native.Nat.{◌-◌}
 use mathlib.Core.Path.{ap}
-use borrow.Author.Rules.{rules}
 use Rattle.bits.proofs.look.Goals as goal
 
 pub returns-then-here : goal.returns-then-here

@@ -1,5 +1,4 @@
 -- `next_absent` meets its contract. Assumes nothing.
-use borrow.Author.Rules.{rules}
 use Rattle.bits.proofs.next_absent.Goals as goal
 
 pub returns : goal.returns

@@ -1,5 +1,4 @@
 -- `next_present` meets its contract. Assumes nothing.
-use borrow.Author.Rules.{rules}
 use Rattle.bits.proofs.next_present.Goals as goal
 
 pub returns : goal.returns

@@ -1,6 +1,5 @@
 -- `count_runs` meets its contract. The loop's invariant: n runs, then those of what is left. Assumes nothing.
-use Rattle.std.proofs.Common.{◌≡◌, ◌+◌, ◌-◌, ◌≤◌, length, drop, arith, rules}
-use Rattle.build.specs.Rule.{runs_of}
+use Rattle.std.proofs.Common.{arith}
 use Rattle.build.proofs.First.{first_some}
 use Rattle.build.proofs.Passing.{count-more, count-done}
 use Rattle.build.proofs.count_runs.Goals as goal

@@ -1,5 +1,5 @@
 -- `inside` meets its contract. Assumes nothing.
-use Rattle.std.proofs.Common.{◌≡◌, ap, ◌∙◌, arith, to_z-of_z, rules, leb-true}
+use Rattle.std.proofs.Common.{◌≡◌, ap, ◌∙◌, arith, to_z-of_z, leb-true}
 use mathlib.Core.Bool.{false≢true}
 use Rattle.keys.specs.Key.{key}
 use Rattle.keys.specs.Widths.{half64}

@@ -1,5 +1,5 @@
 -- `near` meets its contract: the difference of the patterns, and 32,768 more, either of which may wrap. Assumes nothing.
-use Rattle.std.proofs.Common.{◌+◌, ◌%◌, sym, ap, ◌∙◌, to_z-of_z, rules}
+use Rattle.std.proofs.Common.{◌+◌, ◌%◌, sym, ap, ◌∙◌, to_z-of_z}
 use Rattle.codec.specs.Bytes.{of_signed}
 use Rattle.build.proofs.Steps.{step-near}
 use Rattle.build.proofs.near.Goals as goal

@@ -7,16 +7,15 @@ use Rattle.meaning.specs.Column.{sequence_of}
 use Rattle.bits.specs.Bitmap.{bitmap_of}
 use Rattle.recorded.specs.Records.{carries_record}
 use Rattle.exporting.proofs.Spans.{written}
-use borrow.Author.Rules.{rules}
 use Rattle.exporting.proofs.fill.Goals as goal
 
 pub mark_runs-requires : goal.mark_runs-requires
 mark_runs-requires c =
     record {
-  steps_value = c.requires.steps_value;
-  count_value = c.requires.count_value;
-  count_bound = (c.requires.count_bound.0, omega (arith, ap length c.clear.ensures ∙ length-replicate (length c.args.bytes.now) 0, c.requires.count_bound.1));
-}
+      steps_value = c.requires.steps_value;
+      count_value = c.requires.count_value;
+      count_bound = (c.requires.count_bound.0, omega (arith, ap length c.clear.ensures ∙ length-replicate (length c.args.bytes.now) 0, c.requires.count_bound.1));
+    }
 
 pub shape_of-bytes : goal.shape_of-bytes
 shape_of-bytes c =

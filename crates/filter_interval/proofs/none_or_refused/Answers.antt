@@ -3,7 +3,6 @@ use mathlib.Core.Path.{sym, ap}
 use Rattle.loftsplice.specs.Scan.{says_answer}
 use Rattle.filter_interval.specs.Inner.{none_or_refused}
 use Rattle.meaning.specs.declared.Answer.{Answer}
-use borrow.Author.Rules.{rules}
 use Rattle.filter_interval.proofs.none_or_refused.Goals as goal
 
 pub returns-in-Refused : goal.returns-in-Refused

@@ -66,7 +66,6 @@ returns-2 c =
 
 -- ---- by one division
 
-
 bias-requires : tie.Need-bias-requires
 bias-requires c κs = search rules
 

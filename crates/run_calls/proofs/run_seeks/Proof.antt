@@ -53,7 +53,6 @@ module _ (s : tie.Start invariant-loop decreases-loop) where
 
 -- ---- at the loop
 
-
 module _ (c : tie.At-loop-k invariant-loop decreases-loop) where
   inv : let a = c.args in Making a.base a.step a.elements a.targets.now a.out.now a.count c.loop-k.at (to_z w64 c.loop-k.value-bits) c.loop-k.k c.loop-k.out
   inv = rw (of-base c.before, of-step c.before) at c.loop-k.invariant
@@ -77,7 +76,6 @@ meets c =
     rw (of-base s, of-step s) (rw (of-last s, of-target c.before) at c.if-last-target.false)
 
 -- ---- the needs
-
 
 cast-by : tie.Need-overflow_cast-by invariant-loop decreases-loop
 cast-by c = rw (of-step c) (record { sfits = omega arith })

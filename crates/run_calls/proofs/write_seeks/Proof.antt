@@ -41,7 +41,6 @@ module _ (s : tie.Start invariant-loop decreases-loop) where
 
 -- ---- at the loop
 
-
 module _ (c : tie.At-loop-k invariant-loop decreases-loop) where
   abbrev start : tie.Start invariant-loop decreases-loop
   start = c.before.before.before
@@ -56,7 +55,6 @@ module _ (c : tie.At-loop-k invariant-loop decreases-loop) where
   long = seeking-long (col start) (whole start) start.args.end start.args.footing.index start.requires.0.fit start.requires.0.rising start.args.targets.now start.args.out.now start.args.count start.requires.1.0.0 start.requires.1.0.1 c.loop-k.invariant
 
 -- ---- the needs
-
 
 loop-holds : tie.Need-loop-k-init invariant-loop decreases-loop
 loop-holds c =

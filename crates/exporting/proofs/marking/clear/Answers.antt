@@ -1,10 +1,9 @@
 -- `marking::clear` meets its contract: the bytes below j are 0. Assumes nothing.
-use Prim.Native.Nat.{ℕ, ◌-◌, ◌≤◌}
+use Prim.Native.Nat.{ℕ}
 use mathlib.Core.Path.{◌≡◌, refl, ap, ◌∙◌}
 use mathlib.Core.List.{List, ◌++◌, append-nil}
 use native.Mathlib.Omega.{arith}
 use native.Mathlib.Nat.{le_refl}
-use borrow.Author.Rules.{rules}
 use lib.ListN.{length, replicate, drop, set, length-set, drop_of_length-le}
 use borrow.Author.Fill.{fill_none, fill_more}
 use Rattle.exporting.proofs.marking.clear.Goals as goal

@@ -1,11 +1,7 @@
-use Prim.Native.Nat.{ℕ, ◌-◌, ◌≤◌}
-use mathlib.Core.Path.{◌≡◌, refl, ap, ◌∙◌}
-use mathlib.Core.List.{List, ◌++◌, append-nil}
-use native.Mathlib.Omega.{arith}
-use native.Mathlib.Nat.{le_refl}
-use borrow.Author.Rules.{rules}
-use lib.ListN.{length, replicate, drop, set, length-set, drop_of_length-le}
-use borrow.Author.Fill.{fill_none, fill_more}
+use Prim.Native.Nat.{◌-◌, ◌≤◌}
+use mathlib.Core.Path.{◌≡◌}
+use mathlib.Core.List.{◌++◌}
+use lib.ListN.{length, replicate, drop}
 use Rattle.exporting.proofs.marking.clear.Given as goal
 
 abbrev pub invariant-loop-j : goal.invariant-loop-j

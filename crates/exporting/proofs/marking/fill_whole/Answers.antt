@@ -1,9 +1,6 @@
 -- `marking::fill_whole` meets its contract: the bytes below j are all ones. Assumes nothing.
-use Prim.Native.Nat.{◌*◌, ◌-◌, ◌≤◌}
 use mathlib.Core.Path.{◌≡◌}
 use native.Mathlib.Omega.{arith}
-use borrow.Author.Rules.{rules}
-use Rattle.exporting.specs.Inner.{in_span, Marked}
 use Rattle.exporting.proofs.Spans.{mark-whole-none, mark-whole-next}
 use Rattle.exporting.proofs.marking.fill_whole.Goals as goal
 

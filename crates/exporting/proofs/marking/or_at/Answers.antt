@@ -1,5 +1,4 @@
 -- `marking::or_at` meets its contract: one byte. Assumes nothing.
-use borrow.Author.Rules.{rules}
 use Rattle.exporting.proofs.Marks.{mark-byte}
 use Rattle.exporting.proofs.marking.or_at.Goals as goal
 

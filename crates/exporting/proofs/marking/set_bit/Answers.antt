@@ -1,6 +1,5 @@
 -- `marking::set_bit` meets its contract: a mask of one bit. Assumes nothing.
 use native.Mathlib.Omega.{arith}
-use borrow.Author.Rules.{rules}
 use lib.Bits.{mask_lt}
 use Rattle.exporting.proofs.Marks.{mark-shifted}
 use Rattle.exporting.proofs.marking.set_bit.Goals as goal

@@ -1,7 +1,6 @@
 -- `marking::set_run` meets its contract: a span where the step is 1. Assumes nothing.
 use Prim.Native.Nat.{◌*◌}
 use native.Mathlib.Omega.{arith}
-use borrow.Author.Rules.{rules}
 use lib.ListN.{length}
 use Rattle.exporting.proofs.Spans.{mark-run, one-run}
 use Rattle.exporting.proofs.marking.set_run.Goals as goal

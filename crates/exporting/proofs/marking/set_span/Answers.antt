@@ -1,7 +1,6 @@
 -- `marking::set_span` meets its contract: two masks, and whole bytes between them. Assumes nothing.
 use Prim.Native.Nat.{◌%◌}
 use native.Mathlib.Omega.{arith}
-use borrow.Author.Rules.{rules}
 use lib.ListN.{length}
 use lib.Pow.{pow_pos}
 use lib.Bits.{mask_lt}

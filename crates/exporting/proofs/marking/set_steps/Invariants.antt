@@ -1,12 +1,7 @@
-use Prim.Native.Nat.{ℕ, ◌+◌, ◌*◌, ◌-◌, ◌≤◌}
-use mathlib.Core.Path.{◌≡◌, refl, ap, ◌∙◌}
-use native.Mathlib.Omega.{arith}
-use borrow.Author.Rules.{rules}
-use lib.Dec.{eqb}
-use Rattle.ranges.specs.Ranges.{all_for}
+use Prim.Native.Nat.{◌+◌, ◌*◌, ◌-◌, ◌≤◌}
+use mathlib.Core.Path.{◌≡◌}
 use Rattle.recorded.specs.Inner.{in_steps}
 use Rattle.exporting.specs.Inner.{Marked}
-use Rattle.exporting.proofs.Marks.{mark-none, mark-step, mark-as, next-at, last-at}
 use Rattle.exporting.proofs.marking.set_steps.Given as goal
 
 abbrev pub invariant-loop-k : goal.invariant-loop-k

@@ -2,7 +2,6 @@
 use mathlib.Core.Path.{refl, ap, ◌∙◌}
 use Rattle.filter_interval.specs.Inner.{none_or_refused}
 use Rattle.filter_interval.proofs.FilterCases.{current-none, current-within}
-use borrow.Author.Rules.{rules}
 use Rattle.filter_interval.proofs.Filter.current.Goals as goal
 
 pub returns-in-Before : goal.returns-in-Before

@@ -1,6 +1,5 @@
 -- `Filter::new` meets its contract. Assumes nothing.
 use Rattle.filter_interval.proofs.FilterCases.{fit-lower, fit-upper, fit-ready}
-use borrow.Author.Rules.{rules}
 use Rattle.filter_interval.proofs.Filter.new.Goals as goal
 
 pub returns-then-lows-gt16 : goal.returns-then-lows-gt16

@@ -1,5 +1,4 @@
 -- `sifting::ask` meets its contract. Assumes nothing.
-use borrow.Author.Rules.{rules}
 use Rattle.filter_interval.proofs.sifting.ask.Goals as goal
 
 pub returns-in-Before : goal.returns-in-Before

@@ -3,7 +3,6 @@ use mathlib.Core.Path.{refl, ap, ◌∙◌}
 use Rattle.filter_interval.specs.Filter.{lead_to}
 use Rattle.filter_interval.specs.Asking.{bare}
 use Rattle.filter_interval.proofs.FilterCases.{bare-asks}
-use borrow.Author.Rules.{rules}
 use Rattle.filter_interval.proofs.sifting.ask_bare.Goals as goal
 
 pub returns-in-Before : goal.returns-in-Before

@@ -1,7 +1,6 @@
 -- `sifting::lead_on` meets its contract. Assumes nothing.
 use mathlib.Core.Path.{ap, ◌∙◌}
 use Rattle.filter_interval.specs.Asking.{settled}
-use borrow.Author.Rules.{rules}
 use Rattle.filter_interval.proofs.sifting.lead_on.Goals as goal
 
 pub returns : goal.returns

@@ -3,7 +3,6 @@ use mathlib.Core.Path.{sym, ◌∙◌}
 use mir.Syntax.{w64}
 use Rattle.keys.proofs.Bits.{back}
 use Rattle.filter_interval.proofs.FilterCases.{lead-free, lead-past, lead-seek}
-use borrow.Author.Rules.{rules}
 use Rattle.filter_interval.proofs.sifting.lead_to.Goals as goal
 
 pub returns-then-is_exclusive : goal.returns-then-is_exclusive

@@ -2,7 +2,6 @@
 use mir.Syntax.{w64}
 use Rattle.keys.proofs.Bits.{back}
 use Rattle.filter_interval.proofs.FilterCases.{raise-to}
-use borrow.Author.Rules.{rules}
 use Rattle.filter_interval.proofs.sifting.raise.Goals as goal
 
 pub returns-in-To : goal.returns-in-To

@@ -1,7 +1,6 @@
 -- `behind` meets its contract: a window that begins at the record. Assumes nothing.
 use native.Mathlib.Omega.{arith}
 use Rattle.importing.proofs.Windows.{behind-new}
-use borrow.Author.Rules.{rules}
 use Rattle.importing.proofs.single.behind.Goals as goal
 
 pub returns-then-at-count : goal.returns-then-at-count

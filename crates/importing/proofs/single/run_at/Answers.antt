@@ -1,6 +1,5 @@
 -- `run_at` meets its contract: by the window, or by searches. Assumes nothing.
 use native.Mathlib.Omega.{arith}
-use borrow.Author.Rules.{rules}
 use Rattle.importing.proofs.single.run_at.Goals as goal
 
 pub returns-then-count-at : goal.returns-then-count-at

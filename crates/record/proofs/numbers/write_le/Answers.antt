@@ -1,12 +1,10 @@
 -- `record::numbers::write_le` meets its contract. The loop's invariant says what remains: the bytes of the rest, stored from at + i on, are all. Assumes nothing.
 use mathlib.Core.Path.{◌≡◌, refl}
-use Prim.Native.Nat.{suc, ◌+◌, ◌-◌, ◌≤◌}
+use Prim.Native.Nat.{suc, ◌+◌, ◌-◌}
 use native.Mathlib.Omega.{arith}
 use native.Mathlib.Nat.{add-zero, sub-zero}
-use lib.ListN.{length, length-set}
-use lib.Seq.{sets}
+use lib.ListN.{length-set}
 use Rattle.codec.specs.Bytes.{le_bytes}
-use borrow.Author.Rules.{rules}
 use Rattle.record.proofs.numbers.write_le.Goals as goal
 
 pub loop-i-init : goal.loop-i-init

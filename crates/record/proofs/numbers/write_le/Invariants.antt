@@ -1,11 +1,8 @@
-use mathlib.Core.Path.{◌≡◌, refl}
-use Prim.Native.Nat.{suc, ◌+◌, ◌-◌, ◌≤◌}
-use native.Mathlib.Omega.{arith}
-use native.Mathlib.Nat.{add-zero, sub-zero}
-use lib.ListN.{length, length-set}
+use mathlib.Core.Path.{◌≡◌}
+use Prim.Native.Nat.{◌+◌, ◌-◌, ◌≤◌}
+use lib.ListN.{length}
 use lib.Seq.{sets}
 use Rattle.codec.specs.Bytes.{le_bytes}
-use borrow.Author.Rules.{rules}
 use Rattle.record.proofs.numbers.write_le.Given as goal
 
 abbrev pub invariant-loop-i : goal.invariant-loop-i

@@ -1,10 +1,8 @@
 -- `record::reading::check_runs` meets its contract. The loop's invariant: the runs below i are right in 2, and `reach` says whether they are in 3. Assumes nothing.
-use Prim.Native.Nat.{◌-◌}
 use native.Mathlib.Omega.{arith}
 use mir.Syntax.{w16, w64}
 use Rattle.keys.proofs.Bits.{back}
-use Rattle.codec.proofs.Columns.{Passed, passed_none, passed-empty, passed-far, passed-more, passed-fine, passed-reach}
-use borrow.Author.Rules.{rules}
+use Rattle.codec.proofs.Columns.{passed_none, passed-empty, passed-far, passed-more, passed-fine, passed-reach}
 use Rattle.record.proofs.reading.check_runs.Goals as goal
 
 pub loop-i-init : goal.loop-i-init

@@ -1,6 +1,5 @@
 -- `record::reading::open_record` meets its contract: the first test that fails is the refusal. Assumes nothing.
 use Rattle.codec.proofs.Opening.{cut-head, size_low, size-high, cut-body, other-kind, uneven, opened}
-use borrow.Author.Rules.{rules}
 use Rattle.record.proofs.reading.open_record.Goals as goal
 
 pub returns-then-bytes-lt4 : goal.returns-then-bytes-lt4

@@ -1,5 +1,4 @@
 -- `record::reading::read_runs` meets its contract. The loop's invariant: the first i places hold the first i runs, and no others were written. Assumes nothing.
-use denote.Slice.{shr_slice_at}
 use mathlib.Core.Path.{◌≡◌, refl, ap, ◌∙◌}
 use Prim.Native.Nat.{suc, ◌+◌, ◌-◌, ◌*◌, ◌≤◌}
 use native.Mathlib.Omega.{arith}

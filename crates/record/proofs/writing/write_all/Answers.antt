@@ -1,7 +1,6 @@
 -- `record::writing::write_all` meets its contract: the head, then the runs. Assumes nothing.
 use mathlib.Core.Path.{refl}
 use Rattle.codec.proofs.Writing.{record-stored}
-use borrow.Author.Rules.{rules}
 use Rattle.record.proofs.writing.write_all.Goals as goal
 
 pub returns : goal.returns

@@ -4,7 +4,6 @@ use mir.Syntax.{w16, w64}
 use mir.Facts.{to_z-of_z}
 use Rattle.codec.specs.Bytes.{of_signed}
 use Rattle.codec.proofs.Writing.{run-stored}
-use borrow.Author.Rules.{rules}
 use Rattle.record.proofs.writing.write_run.Goals as goal
 
 pub returns : goal.returns

@@ -1,5 +1,4 @@
 -- `record::writing::write_runs` meets its contract. The loop's invariant: `last` is the end before run i, and the runs below i are stored. Assumes nothing.
-use denote.Slice.{shr_slice_at}
 use mathlib.Core.Path.{◌≡◌, refl, ap, ◌∙◌}
 use Prim.Native.Nat.{◌-◌, ◌≤◌}
 use native.Mathlib.Omega.{arith}
