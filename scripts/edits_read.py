@@ -154,6 +154,8 @@ def fact(says):
         return True
     if 'computed as far as they go, the two types differ only where ' in says:
         return True
+    if pair[2].endswith(f' ⊎ {pair[1]}') or pair[2].startswith(f'{pair[1]} ⊎ '):  # what is asked for, or another thing, is there
+        return True
     alone = [re.search(rf'computed as far as it goes, the {side} one (?:begins|is) `(.*?)`', says) for side in ('expected', 'found')]
     kinds = {relation(one[1] if one else printed) for one, printed in zip(alone, pair.groups())}
     named = any(kind not in ('→', '×', '⊎', '≡', '≤') for kind in kinds)  # printed by a name, and compared when computed
