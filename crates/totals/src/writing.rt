@@ -63,7 +63,8 @@ pub(crate) fn write_all(
     requires numbers_len { (length numbers.now ≡ length least.now) × (length numbers.now ≡ length greatest.now) }
     requires numbers_len_2 { (length numbers.now ≡ length high.now) × (length numbers.now ≡ length low.now) }
     requires numbers_in_bounds { (length numbers.now ≤ length counts.old) × (length numbers.now ≤ length leasts.old) }
-    requires numbers_in_bounds_2 { (length numbers.now ≤ length greatests.old) × (length numbers.now ≤ length highs.old) × (length numbers.now ≤ length lows.old) }
+    requires numbers_in_bounds_2 { (length numbers.now ≤ length greatests.old) × (length numbers.now ≤ length highs.old)
+        × (length numbers.now ≤ length lows.old) }
     ensures leaves { Leaves counts (Gives fine) numbers.now }
     ensures leaves_2 { Leaves leasts (Gives fine) (held_in numbers least leasts) }
     ensures leaves_3 { Leaves greatests (Gives fine) (held_in numbers greatest greatests) }
