@@ -1,7 +1,6 @@
 -- `totalling::answered` lends windows that are there. Assumes nothing.
 use native.Mathlib.Omega.{arith}
 use lib.ListN.{length-take}
-use borrow.Author.Rules.{rules}
 use Rattle.totalling.proofs.answered.Goals as goal
 
 pub slice_bounds-totals-end : goal.slice_bounds-totals-end

@@ -1,6 +1,5 @@
 -- `totalling::rows` ends, and reads within the lists. Assumes nothing.
 use Prim.Native.Nat.{◌-◌, ◌≤◌}
-use borrow.Author.Rules.{rules}
 use Rattle.totalling.proofs.rows.Given as goal
 
 abbrev pub invariant-loop-i : goal.invariant-loop-i

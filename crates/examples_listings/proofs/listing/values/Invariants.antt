@@ -1,7 +1,6 @@
 -- `examples_listings::listing::values` reads within its slice, and ends. Assumes nothing.
 use Prim.Native.Nat.{◌-◌, ◌≤◌}
 use lib.ListN.{length}
-use borrow.Author.Rules.{rules}
 use Rattle.examples_listings.proofs.listing.values.Given as goal
 
 abbrev pub invariant-loop-i : goal.invariant-loop-i

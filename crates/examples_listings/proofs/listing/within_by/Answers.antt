@@ -1,7 +1,6 @@
 -- `examples_listings::listing::within_by` lends parts that are there. Assumes nothing.
 use native.Mathlib.Omega.{arith}
 use lib.ListN.{length-take}
-use borrow.Author.Rules.{rules}
 use Rattle.examples_listings.proofs.listing.within_by.Goals as goal
 
 pub slice_bounds-into-end : goal.slice_bounds-into-end

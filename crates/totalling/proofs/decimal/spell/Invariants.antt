@@ -1,13 +1,6 @@
-use Prim.Native.Nat.{◌+◌, ◌-◌, ◌*◌, ◌/◌, ◌%◌, ◌<◌}
-use mathlib.Core.Path.{refl, sym, ◌∙◌}
-use mathlib.Core.Logic.{⊎_elim}
-use native.Mathlib.Omega.{arith}
-use borrow.Author.Rules.{rules}
-use borrow.Author.Tests.{eqb-true, eqb-false}
-use lib.ListN.{length-set}
-use Rattle.totalling.proofs.Spelling.{Spelt, begun, spare, turn, ended}
-use Rattle.totalling.proofs.decimal.spell.Reads as reads
-use Rattle.totalling.proofs.decimal.spell.Lts as lts
+-- `totalling::decimal::spell`: so many digits are written, and what is left is above zero while a digit may be. Assumes nothing.
+use Rattle.std.proofs.Common.{◌+◌, ◌-◌, ◌*◌, ◌<◌}
+use Rattle.totalling.proofs.Spelling.{Spelt}
 use Rattle.totalling.proofs.decimal.spell.Given as goal
 
 abbrev pub invariant-loop-h : goal.invariant-loop-h
