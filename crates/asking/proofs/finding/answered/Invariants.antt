@@ -1,5 +1,5 @@
 -- `asking::finding::answered` ends, and each row has room in the buffer. Assumes nothing.
-use Rattle.std.proofs.Common.{◌-◌, ◌*◌, ◌≤◌, rules}
+use Rattle.std.proofs.Common.{◌-◌, ◌*◌, ◌≤◌}
 use Rattle.asking.proofs.finding.answered.Given as goal
 
 abbrev pub invariant-loop-i : goal.invariant-loop-i

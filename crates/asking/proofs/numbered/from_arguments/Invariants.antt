@@ -1,5 +1,5 @@
 -- `asking::numbered::from_arguments` ends. Assumes nothing.
-use Rattle.std.proofs.Common.{◌-◌, ◌≤◌, rules}
+use Rattle.std.proofs.Common.{◌-◌, ◌≤◌}
 use Rattle.asking.proofs.numbered.from_arguments.Given as goal
 
 abbrev pub invariant-loop-i : goal.invariant-loop-i

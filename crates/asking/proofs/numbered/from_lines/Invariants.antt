@@ -1,5 +1,4 @@
 -- `asking::numbered::from_lines` ends. Assumes nothing.
-use Rattle.std.proofs.Common.{rules}
 use Rattle.asking.proofs.numbered.from_lines.Given as goal
 
 abbrev pub invariant-loop-turns : goal.invariant-loop-turns
