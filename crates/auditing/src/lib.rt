@@ -70,7 +70,7 @@ fn put_page(
     requires { Counted asked (source_of (column_now starts ends steps)) carried filled }
 {
     let mut word = io::buffer();
-    let n = argv::argument(rt, file, &mut word);
+    let n = argv::put_argument(rt, file, &mut word);
     let mut buf = io::large_buffer();
     let a = page::front(rt, asked, &word[..n], carried, filled, &mut buf, 0);
     let b = picture(rt, starts, ends, steps, asked, &mut buf, a);

@@ -18,7 +18,7 @@ fn no_number(rt: &HostRuntime) {
 
 fn word(rt: &HostRuntime, i: usize, wanted: usize) {
     let mut buf = io::buffer();
-    let n = argv::argument(rt, i, &mut buf);
+    let n = argv::put_argument(rt, i, &mut buf);
     place(rt, b"word ", i as u64, &buf[..n]);
     if wanted == 1 {
         no_number(rt);

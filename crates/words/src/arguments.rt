@@ -2,7 +2,7 @@
 ghost use Rattle.std.specs.Prelude.{◌≤◌, ◌<◌};
 
 use crate::argv;
-use crate::argv::argument;
+use crate::argv::put_argument;
 use crate::numbers::{Signed, Unsigned, read_signed, read_unsigned};
 use crate::options::{Command, equal, fits, format_of, is_number, option_of, value_start};
 use crate::places::{FILE, FORMAT, LINES, NUMBERS, OPERANDS, OUT, PLAIN, RISING, WANTED, WRONG};
@@ -16,13 +16,13 @@ fn signed_in(word: &[u8]) -> Signed {
 // Argument i as a number; a missing one is none.
 pub fn signed(rt: &HostRuntime, i: usize) -> Signed {
     let mut buf = io::buffer();
-    let n = argument(rt, i, &mut buf);
+    let n = put_argument(rt, i, &mut buf);
     signed_in(&buf[..n])
 }
 
 pub fn unsigned(rt: &HostRuntime, i: usize) -> Unsigned {
     let mut buf = io::buffer();
-    let n = argument(rt, i, &mut buf);
+    let n = put_argument(rt, i, &mut buf);
     read_unsigned(&buf[..n])
 }
 
@@ -91,7 +91,7 @@ fn value_after(
     requires { option < 12 }
 {
     let mut buf = io::buffer();
-    let n = argument(rt, i, &mut buf);
+    let n = put_argument(rt, i, &mut buf);
     valued(command, option, &buf[..n], i, 2, places)
 }
 
@@ -224,7 +224,7 @@ fn taken(
     option(rt, command, word, i, after, places)
 }
 
-fn take(
+fn argument(
     rt: &HostRuntime,
     command: Command,
     i: usize,
@@ -232,7 +232,7 @@ fn take(
     places: &mut [usize; 16],
 ) -> usize {
     let mut buf = io::buffer();
-    let n = argument(rt, i, &mut buf);
+    let n = put_argument(rt, i, &mut buf);
     taken(rt, command, &buf[..n], i, after, places)
 }
 
@@ -240,7 +240,7 @@ fn take(
 fn take_all(rt: &HostRuntime, command: Command, count: usize, places: &mut [usize; 16]) {
     let mut i = 2;
     while i < count {
-        let took = take(rt, command, i, i + 1, places);
+        let took = argument(rt, command, i, i + 1, places);
         if places[WRONG] != 0 {
             return;
         }
@@ -283,7 +283,7 @@ fn named(word: &[u8]) -> Command {
 
 fn first(rt: &HostRuntime) -> Command {
     let mut buf = io::buffer();
-    let n = argument(rt, 1, &mut buf);
+    let n = put_argument(rt, 1, &mut buf);
     named(&buf[..n])
 }
 

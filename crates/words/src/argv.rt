@@ -4,7 +4,7 @@ ghost use Rattle.std.specs.Prelude.{◌≤◌};
 use std::env::{Env, FillError};
 
 // Puts argument i at the start of a buffer, and answers its length; 0 where it is missing or longer than the buffer.
-pub fn argument(rt: &HostRuntime, i: usize, buf: &mut [u8; 4096]) -> usize
+pub fn put_argument(rt: &HostRuntime, i: usize, buf: &mut [u8; 4096]) -> usize
     ensures { result ≤ 4096 }
 {
     match rt.arg(i, buf) {

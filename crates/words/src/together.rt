@@ -1,5 +1,5 @@
 // What the words come to together: which is missing, and which exclude each other.
-use crate::argv::argument;
+use crate::argv::put_argument;
 use crate::options::{Command, value_start};
 use crate::places::{ABOVE, BELOW, COUNT, FILE, FILLED, FROM, NUMBERS, OPERANDS, TO, WRONG};
 
@@ -42,7 +42,7 @@ fn is_dash(word: &[u8]) -> bool {
 
 fn dash(rt: &HostRuntime, i: usize) -> bool {
     let mut buf = io::buffer();
-    let n = argument(rt, i, &mut buf);
+    let n = put_argument(rt, i, &mut buf);
     is_dash(&buf[..n])
 }
 
