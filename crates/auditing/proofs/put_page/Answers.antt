@@ -1,5 +1,4 @@
 -- `auditing::put_page` writes the window's own numbers and logs. Assumes nothing.
-use borrow.Author.Rules.{rules}
 use Rattle.auditing.proofs.put_page.Goals as goal
 
 pub ranges-d-requires : goal.ranges-d-requires

@@ -1,5 +1,4 @@
 -- `auditing::put_rows` writes the window's own numbers and logs. Assumes nothing.
-use borrow.Author.Rules.{rules}
 use Rattle.auditing.proofs.put_rows.Goals as goal
 
 pub ranges-b-requires : goal.ranges-b-requires

@@ -3,7 +3,6 @@ use Prim.Native.Nat.{◌-◌}
 use mathlib.Core.Bool.{false≢true}
 use native.Mathlib.Omega.{arith}
 use borrow.Author.Tests.{eqb-true}
-use borrow.Author.Rules.{rules}
 use Rattle.auditing.proofs.logs.goes_on.Goals as goal
 
 pub returns-then-n-lt1 : goal.returns-then-n-lt1

@@ -14,42 +14,42 @@ abbrev all : tie.Start → List ℕ
 all s = logs_of s.args.asked (sequence_of (column_of s.args.starts.now s.args.ends.now s.args.steps.now))
 
 -- where it goes on, and where not
-abbrev start-on : tie.After-struct-known → tie.Start
+abbrev start-on : tie.After-struct_known-1 → tie.Start
 start-on c = let g = c.before.before in g.before.before
 
-abbrev start-off : tie.After-put-range-arg → tie.Start
+abbrev start-off : tie.After-put_range-arg-1 → tie.Start
 start-off c = let g = c.before.before in g.before.before
 
-goes-on-requires : tie.Need-goes-on-requires
+goes-on-requires : tie.Need-goes_on-requires
 goes-on-requires c κs = search rules
 
-add-t12 : tie.Need-overflow-add-t12
-add-t12 c = omega (arith, (start-on c).requires.1.1.1)
+-- LEFT: no such goal: overflow-add-t12
+-- add-t12 : tie.Need-overflow-add-t12
+-- add-t12 c = omega (arith, (start-on c).requires.1.1.1)
 
-returns : tie.Need-returns
+returns : tie.Need-returns-then-goes_on
 returns c =
     let s = start-on c in
-    let h = c.before.before.goes_on.ensures c.before.if1.true in
-    (range-more (all s) s.args.row s.pre.0 s.args.k s.pre.1.0 s.pre.1.1.0 _ h.0 h.1, omega arith)
+    let h = c.goes_on.ensures c.if-goes_on.true in
+    (range-more (all s) s.args.row s.requires.0 s.args.k s.requires.1.0 s.requires.1.1.0 _ h.0 h.1, omega arith)
 
-put-range-requires : tie.Need-put-range-requires
+put-range-requires : tie.Need-put_range-at-requires
 put-range-requires c κs = (start-off c).requires.0
 
-add-t14 : tie.Need-overflow-add-t14
-add-t14 c = omega (arith, (start-off c.before.before).requires.1.1.1)
+-- LEFT: no such goal: overflow-add-t14
+-- add-t14 : tie.Need-overflow-add-t14
+-- add-t14 c = omega (arith, (start-off c.before.before).requires.1.1.1)
 
-returns-2 : tie.Need-returns-2
+returns-2 : tie.Need-returns
 returns-2 c =
     let s = start-off c.before.before in
-    (range-one (all s) s.args.row s.pre.0 s.args.k s.pre.1.0 s.pre.1.1.0 _, omega arith)
+    (range-one (all s) s.args.row s.requires.0 s.args.k s.requires.1.0 s.requires.1.1.0 _, omega arith)
 
-pub one-more-spec : {M : Type 1} → statement M
-one-more-spec =
-    tie.close
-    (tie.spec
-    goes-on-requires
-    add-t12
-    returns
-    put-range-requires
-    add-t14
-    returns-2)
+overflow_add-result : tie.Need-overflow_add-result
+overflow_add-result c = search rules
+
+overflow_add-result-2 : tie.Need-overflow_add-result-2
+overflow_add-result-2 c = search rules
+
+pub one_more_spec : {M : Type 1} → statement M
+one_more_spec = tie.close (tie.spec goes-on-requires overflow_add-result returns put-range-requires overflow_add-result-2 returns-2)

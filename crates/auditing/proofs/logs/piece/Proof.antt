@@ -39,65 +39,65 @@ module _ (f : tie.After-filled) where
   begin = s.args.asked.start
 
   room : length (numbers_in fill at stop) ≤ length {A = ℕ} (replicate 65536 0)
-  room = omega (arith, numbers-few fill at stop, length-replicate {A = ℕ} 65536 0, s.pre.1.0.3)
+  room = omega (arith, numbers-few fill at stop, length-replicate {A = ℕ} 65536 0, s.requires.1.0.3)
 
   gave : says_listed f.filled.result ≡ Gives (length (numbers_in fill at stop))
-  gave = f.filled.ensures.0 ∙ window-listed s.args.asked src stop (length {A = ℕ} (replicate 65536 0)) (numbers_in fill at stop) s.pre.0 room
+  gave = f.filled.ensures.0 ∙ window-listed s.args.asked src stop (length {A = ℕ} (replicate 65536 0)) (numbers_in fill at stop) s.requires.0 room
 
   -- the piece's logs after those before it
   added : length (numbers_in fill begin stop) ≡ length (numbers_in fill begin at) + length (numbers_in fill at stop)
-  added = numbers-add fill begin at stop s.pre.1.0.0 s.pre.1.0.1
+  added = numbers-add fill begin at stop s.requires.1.0.0 s.requires.1.0.1
 
 -- so many were listed
-module _ (c : tie.After-n) where
+module _ (c : tie.In-Records) where
   abbrev f₀ : tie.After-filled
-  f₀ = c.before.before.before
+  f₀ = c.before.before
 
   abbrev list : List ℕ
   list = numbers_in (fill f₀) (at f₀) (stop f₀)
 
   abbrev out : List ℕ
-  out = let last = f₀.filled.last.1.1.1.1 in last.1.1.1.0
+  out = f₀.filled.new.out
 
-  size : c.n.given.0.0 ≡ length list
-  size = given-same (sym (ap says_listed c.n.given.1) ∙ gave f₀)
+  size : c.in-Records.n ≡ length list
+  size = given-same (sym (ap says_listed c.in-Records.is) ∙ gave f₀)
 
   left : out ≡ list ++ drop (length list) (replicate 65536 0)
-  left = f₀.filled.ensures.1 ∙ ap (λ r. after (says_listed r) list (replicate 65536 0)) c.n.given.1
+  left = f₀.filled.ensures.1 ∙ ap (λ r. after (says_listed r) list (replicate 65536 0)) c.in-Records.is
 
-  there : c.n.given.0.0 ≤ length out
+  there : c.in-Records.n ≤ length out
   there = within list (replicate 65536 0) out _ left size
 
-  taken : take c.n.given.0.0 out ≡ list
+  taken : take c.in-Records.n out ≡ list
   taken = front list (replicate 65536 0) out _ left size
 
-slice-aggregate-filled : tie.Need-slice-aggregate-filled
+slice-aggregate-filled : tie.Need-slice_bounds-filled-end
 slice-aggregate-filled c = search rules
 
 filled-requires : tie.Need-filled-requires
 filled-requires c κs = search rules
 
-enum_told : tie.Need-enum-told
+enum_told : tie.Need-enum_told-1
 enum_told c = search rules
 
-enum-known-n : tie.Need-enum-known-n
+enum-known-n : tie.Need-enum_known-n
 enum-known-n c = search rules
 
-array-share-prefix-out : tie.Need-array-share-prefix-out
-array-share-prefix-out c = there c.before
+array-share-prefix-out : tie.Need-slice_bounds-out-end
+array-share-prefix-out c = there c
 
-slice-aggregate-take-all : tie.Need-slice-aggregate-take-all
-slice-aggregate-take-all c = sym (length-take-le _ _ (there c.before.before))
+slice-aggregate-take-all : tie.Need-slice_bounds-take_all-end
+slice-aggregate-take-all c = sym (length-take-le _ _ (there c.before))
 
-take-all-requires : tie.Need-take-all-requires
+take-all-requires : tie.Need-take_all-requires
 take-all-requires c κs =
-    let m = c.before.before.before in
+    let m = c.before.before in
     let f = f₀ m in
     let s = s f in
-    let w = s.pre.1.0 in
-    let done = s.pre.1.1.1 in
+    let w = s.requires.1.0 in
+    let done = s.requires.1.1.1 in
     let a = s.args.asked in (
-      s.pre.1.1.0,
+      s.requires.1.1.0,
       (
         taken m ∙ piece-part (fill f) (begin f) (at f) (stop f) a.end w.0 w.1 w.2
             ∙ ap₂ (λ (x : List ℕ) (d : ℕ). take (length x) (drop d (numbers_in (fill f) (begin f) a.end))) (sym (taken m)) (sym done),
@@ -105,26 +105,15 @@ take-all-requires c κs =
       ),
     )
 
-returns : tie.Need-returns
-returns c = let f = c.before.before.before in no_number (sym (gave f) ∙ ap says_listed c.enum_told.given.1)
+returns : tie.Need-returns-in-Refused
+returns c = let f = c.before.before in no_number (sym (gave f) ∙ ap says_listed c.in-Refused.is)
 
-returns-2 : tie.Need-returns-2
+returns-2 : tie.Need-returns-in-Records
 returns-2 c =
     let b = c.before in
-    let m = b.before.before.before in
+    let m = b.before.before in
     let f = f₀ m in
-    (c.take_all.ensures.0, omega (arith, c.take_all.ensures.1, ap length (taken m), (s f).pre.1.1.1, added f))
+    (c.take_all.ensures.0, omega (arith, c.take_all.ensures.1, ap length (taken m), (s f).requires.1.1.1, added f))
 
-pub piece-spec : {M : Type 1} → statement M
-piece-spec =
-    tie.close
-    (tie.spec
-    slice-aggregate-filled
-    filled-requires
-    enum_told
-    enum-known-n
-    array-share-prefix-out
-    slice-aggregate-take-all
-    take-all-requires
-    returns
-    returns-2)
+pub piece_spec : {M : Type 1} → statement M
+piece_spec = tie.close (tie.spec slice-aggregate-filled filled-requires enum_told enum-known-n array-share-prefix-out slice-aggregate-take-all take-all-requires returns returns-2)

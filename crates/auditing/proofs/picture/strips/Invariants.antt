@@ -1,6 +1,5 @@
 -- `auditing::picture::strips` ends. Assumes nothing.
 use Prim.Native.Nat.{◌-◌, ◌≤◌}
-use borrow.Author.Rules.{rules}
 use Rattle.auditing.proofs.picture.strips.Given as goal
 
 abbrev pub invariant-loop-x : goal.invariant-loop-x

@@ -32,33 +32,31 @@ module _ (f : tie.After-filled) where
   stop = s.args.stop
 
   room : length (numbers_in test at stop) ≤ length {A = ℕ} (replicate 65536 0)
-  room = omega (arith, numbers-few test at stop, length-replicate {A = ℕ} 65536 0, s.pre.1)
+  room = omega (arith, numbers-few test at stop, length-replicate {A = ℕ} 65536 0, s.requires.1)
 
   gave : says_listed f.filled.result ≡ Gives (length (numbers_in test at stop))
-  gave = f.filled.ensures.0 ∙ window-listed s.args.asked src stop (length {A = ℕ} (replicate 65536 0)) (numbers_in test at stop) s.pre.0 room
+  gave = f.filled.ensures.0 ∙ window-listed s.args.asked src stop (length {A = ℕ} (replicate 65536 0)) (numbers_in test at stop) s.requires.0 room
 
-slice-aggregate-filled : tie.Need-slice-aggregate-filled
+slice-aggregate-filled : tie.Need-slice_bounds-filled-end
 slice-aggregate-filled c = search rules
 
 filled-requires : tie.Need-filled-requires
 filled-requires c κs = search rules
 
-enum-known-n : tie.Need-enum-known-n
+enum-known-n : tie.Need-enum_known-n
 enum-known-n c = search rules
 
-enum_told : tie.Need-enum-told
+enum_told : tie.Need-enum_told-1
 enum_told c = search rules
 
-returns : tie.Need-returns
+returns : tie.Need-returns-in-Records
 returns c =
-    let at_n = c.before in
-    let f = at_n.before.before.before in
-    given-same (sym (ap says_listed at_n.n.given.1) ∙ gave f)
+    let at_n = c in
+    let f = at_n.before.before in
+    given-same (sym (ap says_listed at_n.in-Records.is) ∙ gave f)
 
-returns-2 : tie.Need-returns-2
-returns-2 c = let f = c.before.before.before in no_number (sym (gave f) ∙ ap says_listed c.enum_told.given.1)
+returns-2 : tie.Need-returns-in-Refused
+returns-2 c = let f = c.before.before in no_number (sym (gave f) ∙ ap says_listed c.in-Refused.is)
 
-pub filled-in-spec : {M : Type 1} → statement M
-filled-in-spec =
-    tie.close
-    (tie.spec slice-aggregate-filled filled-requires enum-known-n enum_told returns returns-2)
+pub filled_in_spec : {M : Type 1} → statement M
+filled_in_spec = tie.close (tie.spec slice-aggregate-filled filled-requires enum-known-n enum_told returns returns-2)

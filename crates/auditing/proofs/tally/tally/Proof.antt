@@ -18,34 +18,32 @@ module _ (w : tie.After-window) where
   src = source_of (column_of s.args.starts.now s.args.ends.now s.args.steps.now)
 
 -- no test refuses the window
-opened : (c : tie.After-enum-told) → let w = c.before.before in window_of (s w).args.asked (src w) (s w).args.asked.end ≡ Gives fine
-opened c = let w = c.before.before in sym w.window.ensures ∙ ap says_checked c.enum_told.given.1
+opened : (c : tie.In-Fine) → let w = c.before in window_of (s w).args.asked (src w) (s w).args.asked.end ≡ Gives fine
+opened c = let w = c.before in sym w.window.ensures ∙ ap says_checked c.in-Fine.is
 
 window-requires : tie.Need-window-requires
 window-requires c κs = search rules
 
-enum-known-why : tie.Need-enum-known-why
+enum-known-why : tie.Need-enum_known-why
 enum-known-why c = search rules
 
-enum_told : tie.Need-enum-told
+enum_told : tie.Need-enum_told-1
 enum_told c = search rules
 
 sums-requires : tie.Need-sums-requires
 sums-requires c κs = opened c
 
-returns : tie.Need-returns
+returns : tie.Need-returns-in-Refused
 returns c =
-    let at-why = c.before in
-    let w = at-why.before.before in
-    counts-refused (s w).args.asked (src w) _ (sym (ap says_checked at-why.why.given.1) ∙ w.window.ensures)
+    let at-why = c in
+    let w = at-why.before in
+    counts-refused (s w).args.asked (src w) _ (sym (ap says_checked at-why.in-Refused.is) ∙ w.window.ensures)
 
-returns-2 : tie.Need-returns-2
+returns-2 : tie.Need-returns-in-Fine
 returns-2 c =
     let o = c.before in
-    let w = o.before.before in
+    let w = o.before in
     c.sums.ensures ∙ counts-given (s w).args.asked (src w) (opened o)
 
-pub tally-spec : {M : Type 1} → statement M
-tally-spec =
-    tie.close
-    (tie.spec window-requires enum-known-why enum_told sums-requires returns returns-2)
+pub tally_spec : {M : Type 1} → statement M
+tally_spec = tie.close (tie.spec window-requires enum-known-why enum_told sums-requires returns returns-2)

@@ -21,30 +21,28 @@ module _ (f : tie.After-filled) where
   abbrev test : ℕ → Bool
   test i = not (carries_field s.args.asked.profile src.sequence i)
 
-slice-aggregate-filled : tie.Need-slice-aggregate-filled
+slice-aggregate-filled : tie.Need-slice_bounds-filled-end
 slice-aggregate-filled c = search rules
 
 filled-requires : tie.Need-filled-requires
 filled-requires c κs = search rules
 
-enum-known-why : tie.Need-enum-known-why
+enum-known-why : tie.Need-enum_known-why
 enum-known-why c = search rules
 
-enum_told : tie.Need-enum-told
+enum_told : tie.Need-enum_told-1
 enum_told c = search rules
 
-returns : tie.Need-returns
+returns : tie.Need-returns-in-Refused
 returns c =
-    let at-why = c.before in
-    let f = at-why.before.before.before in
-    none-refused (s f).args.asked (src f) (test f) (s f).args.asked.end _ _ (sym (ap says_listed at-why.why.given.1) ∙ f.filled.ensures.0)
+    let at-why = c in
+    let f = at-why.before.before in
+    none-refused (s f).args.asked (src f) (test f) (s f).args.asked.end _ _ (sym (ap says_listed at-why.in-Refused.is) ∙ f.filled.ensures.0)
 
-returns-2 : tie.Need-returns-2
+returns-2 : tie.Need-returns-in-Records
 returns-2 c =
-    let f = c.before.before.before in
-    none-given (s f).args.asked (src f) (test f) (s f).args.asked.end _ _ (sym (ap says_listed c.enum_told.given.1) ∙ f.filled.ensures.0)
+    let f = c.before.before in
+    none-given (s f).args.asked (src f) (test f) (s f).args.asked.end _ _ (sym (ap says_listed c.in-Records.is) ∙ f.filled.ensures.0)
 
-pub window-spec : {M : Type 1} → statement M
-window-spec =
-    tie.close
-    (tie.spec slice-aggregate-filled filled-requires enum-known-why enum_told returns returns-2)
+pub window_spec : {M : Type 1} → statement M
+window_spec = tie.close (tie.spec slice-aggregate-filled filled-requires enum-known-why enum_told returns returns-2)
