@@ -1,5 +1,5 @@
 -- `building::from_file` lends a part that is there. Assumes nothing.
-use Rattle.std.proofs.Common.{◌≡◌, ◌≤◌, length, pos, sym, ◌∙◌, length-take-le}
+use Rattle.std.proofs.Common.{pos, sym, ◌∙◌, length-take-le}
 use lib.ListN.{length-replicate}
 use Rattle.building.proofs.from_file.Goals as goal
 use Rattle.building.proofs.from_file.Goals.{Then-n-le-MOST}

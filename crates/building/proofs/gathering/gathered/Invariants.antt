@@ -1,5 +1,5 @@
 -- `building::gathering::gathered` ends. Assumes nothing.
-use Rattle.std.proofs.Common.{◌≡◌, length, rules}
+use Rattle.std.proofs.Common.{◌≡◌, length}
 use Rattle.building.proofs.gathering.gathered.Given as goal
 
 abbrev pub invariant-loop-turns : goal.invariant-loop-turns

@@ -1,5 +1,5 @@
 -- `building::gathering::kept` ends, and writes within the list. Assumes nothing.
-use Rattle.std.proofs.Common.{◌≡◌, ◌-◌, ◌≤◌, length, rules}
+use Rattle.std.proofs.Common.{◌≡◌, ◌-◌, ◌≤◌, length}
 use Rattle.building.proofs.gathering.kept.Given as goal
 
 abbrev pub invariant-loop-i : goal.invariant-loop-i
