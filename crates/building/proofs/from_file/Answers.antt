@@ -2,7 +2,6 @@
 use Rattle.std.proofs.Common.{pos, sym, ◌∙◌, length-take-le}
 use lib.ListN.{length-replicate}
 use Rattle.building.proofs.from_file.Goals as goal
-use Rattle.building.proofs.from_file.Goals.{Then-n-le-MOST}
 
 pub slice_bounds-gathered-end : goal.slice_bounds-gathered-end
 slice_bounds-gathered-end c = sym (length-replicate 524288 (pos 0))

@@ -1,5 +1,5 @@
 -- `command::listing::pieces` ends. Assumes nothing.
-use Rattle.std.proofs.Common.{◌-◌, ◌≤◌, rules}
+use Rattle.std.proofs.Common.{◌-◌, ◌≤◌}
 use Rattle.command.proofs.listing.pieces.Given as goal
 
 abbrev pub invariant-loop-at : goal.invariant-loop-at

@@ -1,5 +1,5 @@
 -- `command::reading::from_bytes` lends parts that are there, and answers only where the record has all bytes. Assumes nothing.
-use Rattle.std.proofs.Common.{arith, length-take, rules}
+use Rattle.std.proofs.Common.{arith, length-take}
 use Rattle.command.proofs.reading.from_bytes.Goals as goal
 
 pub slice_bounds-from_column-end : goal.slice_bounds-from_column-end

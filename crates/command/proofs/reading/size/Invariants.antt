@@ -1,5 +1,5 @@
 -- `command::reading::size` ends. Assumes nothing.
-use Rattle.std.proofs.Common.{rules}
+
 use Rattle.command.proofs.reading.size.Given as goal
 
 abbrev pub invariant-loop-turns : goal.invariant-loop-turns
