@@ -1,7 +1,6 @@
 -- `examples_built::built::building` lends parts that are there. Assumes nothing.
 use native.Mathlib.Omega.{arith}
 use lib.ListN.{length-take}
-use borrow.Author.Rules.{rules}
 use Rattle.examples_built.proofs.built.building.Goals as goal
 
 pub slice_bounds-build-end : goal.slice_bounds-build-end

@@ -1,7 +1,6 @@
 -- `examples_built::mapped::importing` lends parts that are there. Assumes nothing.
 use native.Mathlib.Omega.{arith}
 use lib.ListN.{length-take}
-use borrow.Author.Rules.{rules}
 use Rattle.examples_built.proofs.mapped.importing.Goals as goal
 
 pub slice_bounds-exporting-end : goal.slice_bounds-exporting-end
