@@ -1,6 +1,5 @@
 -- `profiled::numbers` ends, and reads within its array. Assumes nothing.
 use Prim.Native.Nat.{◌-◌, ◌≤◌}
-use borrow.Author.Rules.{rules}
 use Rattle.examples_profiles.proofs.profiled.numbers.Given as goal
 
 abbrev pub invariant-loop-i : goal.invariant-loop-i
