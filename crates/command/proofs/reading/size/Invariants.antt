@@ -1,5 +1,4 @@
 -- `command::reading::size` ends. Assumes nothing.
-
 use Rattle.command.proofs.reading.size.Given as goal
 
 abbrev pub invariant-loop-turns : goal.invariant-loop-turns
