@@ -121,8 +121,8 @@ run() {
   operand_out "$@"
   if [ "$out" = - ]; then
     answer "$@" 3>&1
-    # the program is told by an error that its reader stopped, where a shell is ended by a signal, as a byte more shows: then nothing is said
-    case $said in *'not written') (printf '\n') 2>/dev/null; [ "$?" != 141 ] || exit 141 ;; esac
+    # the program is told by an error that its reader stopped, where a shell is ended by a signal, as a byte more into the pipe shows: then nothing is said
+    case $said in *'not written') if [ -p /dev/stdout ] || [ -S /dev/stdout ]; then (printf '\n') 2>/dev/null; [ "$?" != 141 ] || exit 141; fi ;; esac
   else
     beside
     answer "$@" 3> "${part:-/dev/null}"
