@@ -23,9 +23,8 @@ start-off c = let g = c.before.before in g.before.before
 goes-on-requires : tie.Need-goes_on-requires
 goes-on-requires c κs = search rules
 
--- LEFT: no such goal: overflow-add-t12
--- add-t12 : tie.Need-overflow-add-t12
--- add-t12 c = omega (arith, (start-on c).requires.1.1.1)
+add-on : tie.Need-overflow_add-result
+add-on c = omega (arith, (start-on c).requires.1.1.1)
 
 returns : tie.Need-returns-then-goes_on
 returns c =
@@ -36,20 +35,13 @@ returns c =
 put-range-requires : tie.Need-put_range-at-requires
 put-range-requires c κs = (start-off c).requires.0
 
--- LEFT: no such goal: overflow-add-t14
--- add-t14 : tie.Need-overflow-add-t14
--- add-t14 c = omega (arith, (start-off c.before.before).requires.1.1.1)
+add-off : tie.Need-overflow_add-result-2
+add-off c = omega (arith, (start-off c.before.before).requires.1.1.1)
 
 returns-2 : tie.Need-returns
 returns-2 c =
     let s = start-off c.before.before in
     (range-one (all s) s.args.row s.requires.0 s.args.k s.requires.1.0 s.requires.1.1.0 _, omega arith)
 
-overflow_add-result : tie.Need-overflow_add-result
-overflow_add-result c = search rules
-
-overflow_add-result-2 : tie.Need-overflow_add-result-2
-overflow_add-result-2 c = search rules
-
 pub one_more_spec : {M : Type 1} → statement M
-one_more_spec = tie.close (tie.spec goes-on-requires overflow_add-result returns put-range-requires overflow_add-result-2 returns-2)
+one_more_spec = tie.close (tie.spec goes-on-requires add-on returns put-range-requires add-off returns-2)
