@@ -15,7 +15,7 @@ use Rattle.ranges.specs.Ranges.{all_for, all_in}
 use Rattle.ranges.proofs.Bools.{either, clash, same, and_left, and_right, and_both}
 use Rattle.ranges.proofs.Spans.{in_all, all-next}
 use Rattle.bits.specs.Bitmap.{digit, is_set, present}
-use Rattle.bits.proofs.Digits.{digit_lt}
+use Rattle.std.proofs.lemmas.Nat.Bits.{bit_at-lt}
 use Rattle.recorded.specs.Inner.{in_steps}
 use Rattle.exporting.specs.Inner.{Marked}
 
@@ -60,11 +60,11 @@ and-digits = table (λ x y. eqb (bit_and x y) 1) (λ x y. eqb x 1 && eqb y 1) 2 
 
 pub set-or : (a b k : ℕ) → is_set (bit_or a b) k ≡ (is_set a k || is_set b k)
 unfolding is_set
-set-or a b k = rw (or_shr a b k, or_mod (a / 2 ^ k) (b / 2 ^ k) 1) (or_digits (digit a k) (digit b k) (digit_lt a k) (digit_lt b k))
+set-or a b k = rw (or_shr a b k, or_mod (a / 2 ^ k) (b / 2 ^ k) 1) (or_digits (digit a k) (digit b k) (bit_at-lt a k) (bit_at-lt b k))
 
 pub set-and : (a b k : ℕ) → is_set (bit_and a b) k ≡ (is_set a k && is_set b k)
 unfolding is_set
-set-and a b k = rw (and_shr a b k, and_mod (a / 2 ^ k) (b / 2 ^ k) 1) (and-digits (digit a k) (digit b k) (digit_lt a k) (digit_lt b k))
+set-and a b k = rw (and_shr a b k, and_mod (a / 2 ^ k) (b / 2 ^ k) 1) (and-digits (digit a k) (digit b k) (bit_at-lt a k) (bit_at-lt b k))
 
 -- ---- one byte changed
 

@@ -11,7 +11,7 @@ use Rattle.ranges.proofs.Bools.{clash}
 use Rattle.ranges.proofs.Spans.{lt-or-ge}
 use Rattle.bits.specs.Bitmap.{present}
 use Rattle.bits.specs.Word.{byte_at}
-use Rattle.bits.proofs.Digits.{trailing-some}
+use borrow.Author.Numbers.{trailing_lt}
 use Rattle.bits.proofs.Next.{window-first, window-near}
 use Rattle.importing.proofs.Records.{next-holds}
 use Rattle.importing.proofs.Strips.{quick-ones, quick-two}
@@ -40,7 +40,7 @@ module _ (c : tie.Else-gaps-eq0) where
   some-gap = omega (arith, c.if-gaps-eq0.false)
 
   few : count_trailing_zeros 64 c.window-gaps.result < 64
-  few = trailing-some 64 c.window-gaps.result some-gap (omega (arith, c.window-gaps.type_inv))
+  few = trailing_lt 64 c.window-gaps.result some-gap (omega (arith, c.window-gaps.type_inv))
 
   end_is : st.args.at + count_trailing_zeros 64 c.window-gaps.result ≡ first_from (λ i. not (present st.args.bytes.now i)) st.args.at st.args.count
   end_is =
