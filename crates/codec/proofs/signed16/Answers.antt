@@ -1,12 +1,8 @@
--- `codec::signed16` meets its contract: the bits are those of x, flipped twice where they are high. Assumes nothing.
-use mathlib.Core.Path.{refl}
-use native.Mathlib.Omega.{arith}
-use mir.Syntax.{w16}
-use Rattle.codec.proofs.Signs.{as-signed, flipped-back}
+-- `codec::signed16` meets its contract. Assumes nothing.
+use Rattle.std.proofs.Common.{refl, ◌∙◌, w16}
+use Rattle.keys.proofs.Bits.{back}
+use Rattle.codec.proofs.Signs.{as-signed}
 use Rattle.codec.proofs.signed16.Goals as goal
 
-pub returns-then-x-lt32768 : goal.returns-then-x-lt32768
-returns-then-x-lt32768 c = as-signed w16 2 refl c.args.x
-
-pub returns-else-x-lt32768 : goal.returns-else-x-lt32768
-returns-else-x-lt32768 c = flipped-back w16 2 refl c.args.x (omega arith)
+pub returns : goal.returns
+returns c = back w16 _ c.cast_signed.type_inv ∙ c.cast_signed.ensures ∙ as-signed w16 2 refl c.args.x

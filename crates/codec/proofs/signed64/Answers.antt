@@ -1,12 +1,8 @@
--- `codec::signed64` meets its contract: the bits are those of x, flipped twice where they are high. Assumes nothing.
-use mathlib.Core.Path.{refl}
-use native.Mathlib.Omega.{arith}
-use mir.Syntax.{w64}
-use Rattle.codec.proofs.Signs.{as-signed, flipped-back}
+-- `codec::signed64` meets its contract. Assumes nothing.
+use Rattle.std.proofs.Common.{refl, ◌∙◌, w64}
+use Rattle.keys.proofs.Bits.{back}
+use Rattle.codec.proofs.Signs.{as-signed}
 use Rattle.codec.proofs.signed64.Goals as goal
 
-pub returns-then-x-lt9223372036854775808 : goal.returns-then-x-lt9223372036854775808
-returns-then-x-lt9223372036854775808 c = as-signed w64 8 refl c.args.x
-
-pub returns-else-x-lt9223372036854775808 : goal.returns-else-x-lt9223372036854775808
-returns-else-x-lt9223372036854775808 c = flipped-back w64 8 refl c.args.x (omega arith)
+pub returns : goal.returns
+returns c = back w64 _ c.cast_signed.type_inv ∙ c.cast_signed.ensures ∙ as-signed w64 8 refl c.args.x
