@@ -1,29 +1,58 @@
--- The digits of a number: counts, first ones, what shifts and masks leave. Assumes nothing.
+-- The digits of a number as tests, and counts of a test. Assumes nothing.
 use Prim.Native.Nat.{ℕ, zero, suc, ◌+◌, ◌-◌, ◌/◌, ◌%◌, ◌^◌, ◌≤◌, ◌<◌}
 use mathlib.Core.Path.{◌≡◌, refl, sym, ap, ap₂, ◌∙◌}
 use mathlib.Core.Bool.{Bool, true, false, cond, not}
 use native.Mathlib.Omega.{arith}
 use native.Mathlib.Numerals.{add-one}
-use native.Mathlib.Nat.{mod-lt, pow-suc, div-eq_of_lt, lt_of_lt_of_le}
-use lib.Dec.{eqb, lit<}
-use lib.Pow.{shr-shr, mod-pow-add, mod-mod-pow, field, pow_mono, pow_pos}
-use lib.Bits.{bit_and, and_mask}
-use lib.Count.{ones, ones_cat, count_trailing_zeros, under}
+use lib.Dec.{eqb}
+use lib.Pow.{field, mod-mod-pow}
+use lib.Count.{ones, ones_step}
+use mir.Syntax.{w64}
+use Rattle.std.proofs.lemmas.Nat.{shr-shr}
+use Rattle.std.proofs.lemmas.Nat.Bits.{bit_at-lt, bit_at-suc, bit_at_not}
 use Rattle.bits.specs.Bitmap.{digit, is_set, count_for}
 
 -- ---- one digit
 
-pub digit_lt : (n k : ℕ) → digit n k < 2
-digit_lt n k = mod-lt (n / 2 ^ k) (lit< tt)
+pub set_on : (n k : ℕ) → digit n k ≡ 1 → is_set n k ≡ true
+unfolding is_set
+set_on n k e = rw e
 
-pub digit-next : (n k : ℕ) → digit n (suc k) ≡ digit (n / 2) k
-digit-next n k = ap (λ (x : ℕ). x % 2) (ap (λ (j : ℕ). n / 2 ^ j) (omega arith) ∙ sym (shr-shr n 1 k))
+pub set-off : (n k : ℕ) → digit n k ≡ 0 → is_set n k ≡ false
+unfolding is_set
+set-off n k e = rw e
+
+pub set_same : (n m k l : ℕ) → digit n k ≡ digit m l → is_set n k ≡ is_set m l
+unfolding is_set
+set_same n m k l e = rw e
+
+pub digit-of : (n k : ℕ) → digit n k ≡ cond (is_set n k) 1 0
+unfolding is_set
+digit-of n k = by (digit n k) (bit_at-lt n k)
+  where
+    by : (d : ℕ) → d < 2 → d ≡ cond (eqb d 1) 1 0
+    by zero l = refl
+    by (suc zero) l = refl
+    by (suc (suc d)) l = absurd (omega arith)
 
 pub set_next : (n k : ℕ) → is_set n (suc k) ≡ is_set (n / 2) k
-unfolding is_set
-set_next n k = rw (digit-next n k)
+set_next n k = set_same n (n / 2) (suc k) k (bit_at-suc n k)
 
--- ---- counting
+-- a shift takes digits off below
+pub set_shr : (n k m : ℕ) → is_set n (k + m) ≡ is_set (n / 2 ^ k) m
+set_shr n k m = set_same n (n / 2 ^ k) (k + m) m (ap (λ (x : ℕ). x % 2) (sym (shr-shr n k m)))
+
+-- the digits of `!x` are the opposite
+pub set-not : (x k : ℕ) → x < 2 ^ 64 → k < 64 → is_set (18446744073709551615 - x) k ≡ not (is_set x k)
+unfolding is_set
+set-not x k l m = ap (λ (d : ℕ). eqb d 1) (bit_at_not w64 x k l m) ∙ by (digit x k) (bit_at-lt x k)
+  where
+    by : (d : ℕ) → d < 2 → eqb (1 - d) 1 ≡ not (eqb d 1)
+    by zero l = refl
+    by (suc zero) l = refl
+    by (suc (suc d)) l = absurd (omega arith)
+
+-- ---- counts
 
 pub count_same : (p q : ℕ → Bool) (n a b : ℕ) → ((k : ℕ) → k < n → p (a + k) ≡ q (b + k)) → count_for p a n ≡ count_for q b n
 unfolding count_for
@@ -46,118 +75,28 @@ count_cut p (suc m) a n =
     let h : count_for p (suc a) (m + n) ≡ count_for p (suc a) m + count_for p (a + suc m) n = count_cut p m (suc a) n ∙ ap (λ (x : ℕ). count_for p (suc a) m + count_for p x n) g in
     rw e (omega arith)
 
-set-lowest : (n : ℕ) → cond (is_set n 0) 1 0 ≡ n % 2
-unfolding is_set
-set-lowest n = go (n % 2) (mod-lt n (lit< tt)) (ap (λ (x : ℕ). x % 2) (div-one n))
-  where
-    div-one : (m : ℕ) → m / 1 ≡ m
-    div-one m = omega arith
+pub bit-le : (t : Bool) → cond t 1 0 ≤ 1
+bit-le true = omega arith
+bit-le false = omega arith
 
-    go : (d : ℕ) → d < 2 → n / 1 % 2 ≡ d → cond (eqb (n / 1 % 2) 1) 1 0 ≡ d
-    go zero l e = rw e
-    go (suc zero) l e = rw e
-    go (suc (suc d)) l e = absurd (omega arith)
+pub count_le : (p : ℕ → Bool) (a n : ℕ) → count_for p a n ≤ n
+unfolding count_for
+count_le p a zero = omega arith
+count_le p a (suc n) = omega (arith, bit-le (p a), count_le p (suc a) n)
 
-ones-digit : (d : ℕ) → d < 2 → ones d ≡ d
-unfolding ones
-ones-digit zero l = refl
-ones-digit (suc zero) l = refl
-ones-digit (suc (suc d)) l = absurd (omega arith)
+pub count_none : (p : ℕ → Bool) (n a : ℕ) → ((k : ℕ) → a ≤ k → p k ≡ false) → count_for p a n ≡ 0
+unfolding count_for
+count_none p zero a f = refl
+count_none p (suc n) a f = rw (f a (omega arith)) (omega (arith, count_none p n (suc a) (λ k l. f k (omega arith))))
 
 -- the digits below n that are set: the ones of what a mask leaves
 pub count_ones : (n x : ℕ) → count_for (is_set x) 0 n ≡ ones (x % 2 ^ n)
 unfolding count_for ones
 count_ones zero x = let e : x % 1 ≡ 0 = omega arith in rw e
 count_ones (suc n) x =
-    ap₂ (λ (a b : ℕ). a + b) (set-lowest x) (count_same (is_set x) (is_set (x / 2)) n 1 0 (λ k l. ap (is_set x) (omega arith) ∙ set_next x k ∙ ap (is_set (x / 2)) (omega arith)) ∙ count_ones n (x / 2))
-    ∙ omega arith
-    ∙ ap (λ (y : ℕ). ones (x / 2 % 2 ^ n) + y) (sym (ones-digit (x % 2) (mod-lt x (lit< tt))))
-    ∙ sym (ones_cat 1 (x / 2 % 2 ^ n) (x % 2) (mod-lt x (lit< tt)))
-    ∙ ap ones (sym (mod-pow-add x n 1) ∙ ap (λ (j : ℕ). x % 2 ^ j) (add-one n))
-
--- ---- the zeros below the lowest one
-
-digit-zero : (n : ℕ) → digit n 0 ≡ n % 2
-digit-zero n = omega arith
-
--- each digit below is 0
-pub trailing-off : (k n j : ℕ) → j < count_trailing_zeros k n → digit n j ≡ 0
-unfolding count_trailing_zeros
-trailing-off zero n j l = absurd (omega arith)
-trailing-off (suc k) n j l = go j (n % 2) refl l (λ i m. trailing-off k (n / 2) i m)
-  where
-    go : (i d : ℕ) → n % 2 ≡ d → i < under d (count_trailing_zeros k (n / 2)) → ((x : ℕ) → x < count_trailing_zeros k (n / 2) → digit (n / 2) x ≡ 0) → digit n i ≡ 0
-    go zero zero e m f = digit-zero n ∙ e
-    go (suc i) zero e m f = digit-next n i ∙ f i (omega arith)
-    go i (suc d) e m f = absurd (omega arith)
-
--- where there are fewer than all, the next one is 1
-pub trailing-on : (k n : ℕ) → count_trailing_zeros k n < k → digit n (count_trailing_zeros k n) ≡ 1
-unfolding count_trailing_zeros
-trailing-on zero n l = absurd (omega arith)
-trailing-on (suc k) n l = go (n % 2) refl l (trailing-on k (n / 2))
-  where
-    go : (d : ℕ) → n % 2 ≡ d → under d (count_trailing_zeros k (n / 2)) < suc k
-        → (count_trailing_zeros k (n / 2) < k → digit (n / 2) (count_trailing_zeros k (n / 2)) ≡ 1) → digit n (under d (count_trailing_zeros k (n / 2))) ≡ 1
-    go zero e m f = digit-next n (count_trailing_zeros k (n / 2)) ∙ f (omega arith)
-    go (suc d) e m f = digit-zero n ∙ omega (arith, mod-lt n (lit< {m = 0} {n = 2} tt))
-
--- a number that is not 0 has a one
-pub trailing-some : (k n : ℕ) → 0 < n → n < 2 ^ k → count_trailing_zeros k n < k
-unfolding count_trailing_zeros
-trailing-some zero n p l = absurd (omega arith)
-trailing-some (suc k) n p l = go (n % 2) refl (λ q. trailing-some k (n / 2) q (omega (arith, pow-suc 2 k)))
-  where
-    go : (d : ℕ) → n % 2 ≡ d → (0 < n / 2 → count_trailing_zeros k (n / 2) < k) → under d (count_trailing_zeros k (n / 2)) < suc k
-    go zero e f = let h : count_trailing_zeros k (n / 2) < k = f (omega arith) in omega arith
-    go (suc d) e f = omega arith
-
--- a shift takes digits off below
-pub digit_shift : (n a j : ℕ) → digit (n / 2 ^ a) j ≡ digit n (a + j)
-digit_shift n a j = ap (λ (x : ℕ). x % 2) (shr-shr n a j)
-
--- past a number's digits there are zeros
-pub digit-past : (n m j : ℕ) → n < 2 ^ m → m ≤ j → digit n j ≡ 0
-digit-past n m j l h =
-    let e : n / 2 ^ j ≡ 0 = div-eq_of_lt (lt_of_lt_of_le l (pow_mono h)) in
-    ap (λ (x : ℕ). x % 2) e
-
--- a digit below w is one of what is left below 2 ^ w
-pub digit_low : (n w k : ℕ) → k < w → digit n k ≡ digit (n % 2 ^ w) k
-digit_low n w k l =
-    let e : w - (1 + k) + (1 + k) ≡ w = omega arith in
-    sym (field n 1 k)
-    ∙ ap (λ (x : ℕ). x / 2 ^ k) (sym (mod-mod-pow n (w - (1 + k)) (1 + k)) ∙ ap (λ (x : ℕ). n % 2 ^ x % 2 ^ (1 + k)) e)
-    ∙ field (n % 2 ^ w) 1 k
-
--- ---- a digit as a test
-
-pub set_on : (n k : ℕ) → digit n k ≡ 1 → is_set n k ≡ true
-unfolding is_set
-set_on n k e = rw e
-
-pub set-off : (n k : ℕ) → digit n k ≡ 0 → is_set n k ≡ false
-unfolding is_set
-set-off n k e = rw e
-
-pub set_same : (n m k l : ℕ) → digit n k ≡ digit m l → is_set n k ≡ is_set m l
-unfolding is_set
-set_same n m k l e = rw e
-
--- `(b >> (i & 7)) & 1 == 1`
-pub tested : (b i : ℕ) → eqb (bit_and (b / 2 ^ bit_and i 7) 1) 1 ≡ is_set b (i % 8)
-unfolding is_set
-tested b i = rw (and_mask i 3, and_mask (b / 2 ^ (i % 8)) 1)
-
--- the digits of what is left of all ones are the opposite
-pub set-not : (w x k : ℕ) → x < 2 ^ w → k < w → is_set (2 ^ w - 1 - x) k ≡ not (is_set x k)
-set-not zero x k l m = absurd (omega arith)
-set-not (suc w) x zero l m = go (x % 2) refl (mod-lt x (lit< {m = 0} {n = 2} tt))
-  where
-    go : (d : ℕ) → x % 2 ≡ d → d < 2 → is_set (2 ^ suc w - 1 - x) 0 ≡ not (is_set x 0)
-    go zero e h = set_on (2 ^ suc w - 1 - x) 0 (digit-zero (2 ^ suc w - 1 - x) ∙ omega (arith, pow-suc 2 w, pow_pos w)) ∙ sym (ap not (set-off x 0 (digit-zero x ∙ e)))
-    go (suc zero) e h = set-off (2 ^ suc w - 1 - x) 0 (digit-zero (2 ^ suc w - 1 - x) ∙ omega (arith, pow-suc 2 w, pow_pos w)) ∙ sym (ap not (set_on x 0 (digit-zero x ∙ e)))
-    go (suc (suc d)) e h = absurd (omega arith)
-set-not (suc w) x (suc k) l m =
-    let e : (2 ^ suc w - 1 - x) / 2 ≡ 2 ^ w - 1 - x / 2 = omega (arith, pow-suc 2 w, pow_pos w) in
-    set_next (2 ^ suc w - 1 - x) k ∙ ap (λ (y : ℕ). is_set y k) e ∙ set-not w (x / 2) k (omega (arith, pow-suc 2 w)) (omega arith) ∙ sym (ap not (set_next x k))
+    let low : x % 2 ^ suc n % 2 ≡ x % 2 = rw (add-one n) at (mod-mod-pow x n 1) in
+    let high : x % 2 ^ suc n / 2 ≡ x / 2 % 2 ^ n = rw (add-one n) at (field x n 1) in
+    let lowest : cond (is_set x 0) 1 0 ≡ x % 2 = sym (digit-of x 0) ∙ omega arith in
+    let rest : count_for (is_set x) 1 n ≡ ones (x / 2 % 2 ^ n) =
+    count_same (is_set x) (is_set (x / 2)) n 1 0 (λ k l. ap (is_set x) (omega arith) ∙ set_next x k ∙ ap (is_set (x / 2)) (omega arith)) ∙ count_ones n (x / 2) in
+    sym (ones_step (x % 2 ^ suc n) ∙ ap₂ (λ a b. a + ones b) low high ∙ ap₂ (λ a b. a + b) (sym lowest) (sym rest))

@@ -1,51 +1,28 @@
 -- A list of bytes is the bitmap of what its digits say, and of nothing else. Assumes nothing.
-use Prim.Native.Nat.{ℕ, zero, suc, ◌+◌, ◌*◌, ◌/◌, ◌%◌, ◌^◌, ◌≤◌, ◌<◌}
+use Prim.Native.Nat.{ℕ, zero, suc, ◌+◌, ◌*◌, ◌/◌, ◌%◌, ◌^◌, ◌<◌}
 use mathlib.Core.Path.{◌≡◌, refl, sym, ap, ◌∙◌}
 use mathlib.Core.Bool.{Bool, true, false, cond}
 use mathlib.Core.List.{List}
 use native.Mathlib.Omega.{arith}
 use native.Mathlib.Nat.{pow-suc}
-use lib.Dec.{eqb}
 use lib.ListN.{get_or, length, replicate}
 use lib.Seq.{ext_get_or}
-use Rattle.bits.specs.Bitmap.{digit, is_set, present, byte_of, bitmap_of}
-use Rattle.bits.proofs.Digits.{digit_lt, digit-past, set_next, set_on, set-off}
+use Rattle.std.proofs.lemmas.Nat.Bits.{bit_at-zero, same_from_bits_below}
+use Rattle.bits.specs.Bitmap.{is_set, present, byte_of, bitmap_of}
+use Rattle.bits.proofs.Digits.{digit-of, bit-le, set_next, set_on, set-off}
 use Rattle.bits.proofs.Words.{byte-shows}
 
--- ---- a number by its digits
-
-digit-of : (n k : ℕ) → digit n k ≡ cond (is_set n k) 1 0
-unfolding is_set
-digit-of n k = go (digit n k) refl (digit_lt n k)
-  where
-    go : (d : ℕ) → digit n k ≡ d → d < 2 → digit n k ≡ cond (eqb (digit n k) 1) 1 0
-    go zero e l = rw e
-    go (suc zero) e l = rw e
-    go (suc (suc d)) e l = absurd (omega arith)
-
-pub same_digits : (k x y : ℕ) → x < 2 ^ k → y < 2 ^ k → ((m : ℕ) → m < k → is_set x m ≡ is_set y m) → x ≡ y
-same_digits zero x y l h f = omega arith
-same_digits (suc k) x y l h f =
-    let e : digit x 0 ≡ digit y 0 = digit-of x 0 ∙ ap (λ (t : Bool). cond t 1 0) (f 0 (omega arith)) ∙ sym (digit-of y 0) in
-    let g : x / 2 ≡ y / 2 =
-    same_digits k (x / 2) (y / 2) (omega (arith, pow-suc 2 k)) (omega (arith, pow-suc 2 k))
-    (λ m u. sym (set_next x m) ∙ f (suc m) (omega arith) ∙ set_next y m) in
-    omega arith
+-- a number by its digits
+same_digits : (k x y : ℕ) → x < 2 ^ k → y < 2 ^ k → ((m : ℕ) → m < k → is_set x m ≡ is_set y m) → x ≡ y
+same_digits k x y l h f = same_from_bits_below k x y l h (λ m u. digit-of x m ∙ ap (λ (t : Bool). cond t 1 0) (f m u) ∙ sym (digit-of y m))
 
 -- ---- the byte that a test makes
 
 module _ (p : ℕ → Bool) where
-  bit_le : (a : ℕ) → cond (p a) 1 0 ≤ 1
-  bit_le a = go (p a)
-    where
-      go : (t : Bool) → cond t 1 0 ≤ 1
-      go true = omega arith
-      go false = omega arith
-
   pub byte-lt : (k a : ℕ) → byte_of p a k < 2 ^ k
   unfolding byte_of
   byte-lt zero a = omega arith
-  byte-lt (suc k) a = omega (arith, bit_le a, pow-suc 2 k, byte-lt k (suc a))
+  byte-lt (suc k) a = omega (arith, bit-le (p a), pow-suc 2 k, byte-lt k (suc a))
 
   lowest : (t : Bool) (x : ℕ) → is_set (cond t 1 0 + 2 * x) 0 ≡ t
   lowest true x = set_on (1 + 2 * x) 0 (omega arith)
@@ -56,7 +33,7 @@ module _ (p : ℕ → Bool) where
   byte-digit zero a m l = absurd (omega arith)
   byte-digit (suc k) a zero l = lowest (p a) (byte_of p (suc a) k) ∙ (let e : a ≡ a + 0 = omega arith in ap p e)
   byte-digit (suc k) a (suc m) l =
-      let h : (cond (p a) 1 0 + 2 * byte_of p (suc a) k) / 2 ≡ byte_of p (suc a) k = omega (arith, bit_le a) in
+      let h : (cond (p a) 1 0 + 2 * byte_of p (suc a) k) / 2 ≡ byte_of p (suc a) k = omega (arith, bit-le (p a)) in
       let e : suc a + m ≡ a + suc m = omega arith in
       set_next (cond (p a) 1 0 + 2 * byte_of p (suc a) k) m ∙ ap (λ (x : ℕ). is_set x m) h ∙ byte-digit k (suc a) m (omega arith) ∙ ap p e
 
@@ -97,4 +74,4 @@ zeros-at (suc n) (suc j) = zeros-at n j
 
 pub none-present : (n i : ℕ) → present (zeros n) i ≡ false
 unfolding present
-none-present n i = ap (λ (x : ℕ). is_set x (i % 8)) (zeros-at n (i / 8)) ∙ set-off 0 (i % 8) (digit-past 0 0 (i % 8) (omega arith) (omega arith))
+none-present n i = ap (λ (x : ℕ). is_set x (i % 8)) (zeros-at n (i / 8)) ∙ set-off 0 (i % 8) (bit_at-zero (i % 8))

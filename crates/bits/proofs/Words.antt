@@ -3,17 +3,24 @@ use Prim.Native.Nat.{ℕ, zero, suc, ◌+◌, ◌-◌, ◌*◌, ◌/◌, ◌%◌
 use mathlib.Core.Path.{◌≡◌, refl, sym, ap, ◌∙◌}
 use mathlib.Core.Logic.{⊎_elim}
 use mathlib.Core.Bool.{Bool, true, false, not}
-use mathlib.Core.List.{List, [], ◌∷◌}
+use mathlib.Core.List.{List}
 use native.Mathlib.Omega.{arith}
-use native.Mathlib.Nat.{mod-lt}
-use lib.ListN.{get_or, length}
-use lib.Pow.{pow-lt, pow_pos}
+use lib.Dec.{lit<}
+use lib.ListN.{get_or, length, take, drop}
+use lib.Seq.{get_or-take, get_or-drop, drop-drop}
 use lib.Bits.{bit_and, and_mask}
-use lib.Count.{ones, ones-le}
+use lib.Count.{ones}
+use mir.Syntax.{w64}
+use Rattle.std.specs.Simd.{first_chunks}
+use Rattle.std.specs.Int.{from_le_bytes}
+use Rattle.std.proofs.Common.{length-take}
+use Rattle.std.proofs.lemmas.List.{get_or_past}
+use Rattle.std.proofs.lemmas.Nat.{one_shl}
+use Rattle.std.proofs.lemmas.Nat.Bits.{bit_at-zero, bit_at_cat_low, bit_at_cat_high}
 use Rattle.ranges.proofs.Spans.{lt-or-ge}
-use Rattle.bits.specs.Bitmap.{digit, is_set, present, count_for}
+use Rattle.bits.specs.Bitmap.{is_set, present, count_for}
 use Rattle.bits.specs.Word.{byte_at, word_at, sought_at, sought}
-use Rattle.bits.proofs.Digits.{digit_shift, digit_low, digit-past, set_same, set-off, set-not, count_same, count_cut, count_ones}
+use Rattle.bits.proofs.Digits.{set_same, set-off, set-not, count_same, count_cut, count_none, count_ones}
 
 -- the w lowest digits of x are what p says from base on
 abbrev pub Shows : (ℕ → Bool) → ℕ → ℕ → ℕ → Type 0
@@ -30,19 +37,14 @@ byte-shows bs j k l =
 
 shows-cat : (p : ℕ → Bool) (base after w a m n : ℕ) → a < 256 → after ≡ base + 8 → n ≡ a + m * 256 → Shows p base 8 a → Shows p after w m → Shows p base (8 + w) n
 shows-cat p base after w a m n l e g f h k u =
-    ⊎_elim
-    (λ (v : k < 8). f k v ∙ set_same a n k k (sym (digit_low n 8 k v ∙ ap (λ (x : ℕ). digit x k) low)))
+    let cat : n ≡ m * 2 ^ 8 + a = omega arith in
+    rw cat
+    (⊎_elim
+    (λ (v : k < 8). f k v ∙ sym (set_same (m * 2 ^ 8 + a) a k k (bit_at_cat_low m 8 a k v)))
     (λ (v : 8 ≤ k).
     let i : base + k ≡ after + (k - 8) = omega arith in
-    let t : 8 + (k - 8) ≡ k = omega arith in
-    ap p i ∙ h (k - 8) (omega arith) ∙ set_same m n (k - 8) k (ap (λ (x : ℕ). digit x (k - 8)) (sym high) ∙ digit_shift n 8 (k - 8) ∙ ap (digit n) t))
-    (lt-or-ge k 8)
-  where
-    low : n % 256 ≡ a
-    low = omega arith
-
-    high : n / 256 ≡ m
-    high = omega arith
+    ap p i ∙ h (k - 8) (omega arith) ∙ sym (set_same (m * 2 ^ 8 + a) m k (k - 8) (bit_at_cat_high m 8 a k l v)))
+    (lt-or-ge k 8))
 
 -- eight bytes
 pub word-shows : (bs : List ℕ) (j : ℕ) → ((k : ℕ) → byte_at bs k < 256) → Shows (present bs) (8 * j) 64 (word_at bs j)
@@ -70,7 +72,7 @@ word_lt bs j f = omega (arith, f j, f (j + 1), f (j + 2), f (j + 3), f (j + 4), 
 -- what is looked for, in eight bytes
 pub sought-shows : (here : Bool) (bs : List ℕ) (j : ℕ) → ((k : ℕ) → byte_at bs k < 256) → Shows (sought here bs) (8 * j) 64 (sought_at here bs j)
 sought-shows true bs j f k l = word-shows bs j f k l
-sought-shows false bs j f k l = ap not (word-shows bs j f k l) ∙ sym (set-not 64 (word_at bs j) k (word_lt bs j f) l)
+sought-shows false bs j f k l = ap not (word-shows bs j f k l) ∙ sym (set-not (word_at bs j) k (word_lt bs j f) l)
 
 pub sought-lt : (here : Bool) (bs : List ℕ) (j : ℕ) → ((k : ℕ) → byte_at bs k < 256) → sought_at here bs j < 18446744073709551616
 sought-lt true bs j f = word_lt bs j f
@@ -78,58 +80,58 @@ sought-lt false bs j f = omega arith
 
 -- ---- counts
 
--- the ones of a number are the records that it shows
-pub count-shown : (p : ℕ → Bool) (base w x r : ℕ) → Shows p base w x → r ≤ w → count_for p base r ≡ ones (x % 2 ^ r)
-count-shown p base w x r f l = count_same p (is_set x) r base 0 (λ k m. f k (omega arith) ∙ ap (is_set x) (omega arith)) ∙ count_ones r x
+-- the ones of a word's r lowest digits are the next r records that are present
+count-more : (bs : List ℕ) (j n r : ℕ) → ((i : ℕ) → byte_at bs i < 256) → r ≤ 64 → n ≡ count_for (present bs) 0 (8 * j)
+    → n + ones (word_at bs j % 2 ^ r) ≡ count_for (present bs) 0 (8 * j + r)
+count-more bs j n r f l e =
+    let h : count_for (present bs) (8 * j) r ≡ ones (word_at bs j % 2 ^ r) =
+    count_same (present bs) (is_set (word_at bs j)) r (8 * j) 0 (λ k m. word-shows bs j f k (omega arith) ∙ ap (is_set (word_at bs j)) (omega arith)) ∙ count_ones r (word_at bs j) in
+    let z : 0 + 8 * j ≡ 8 * j = omega arith in
+    rw (count_cut (present bs) (8 * j) 0 r, z) (omega arith)
 
--- eight bytes more
-pub count_word : (bs : List ℕ) (k n : ℕ) → ((i : ℕ) → byte_at bs i < 256) → n ≡ count_for (present bs) 0 (64 * k)
-    → n + ones (word_at bs (8 * k)) ≡ count_for (present bs) 0 (64 * (k + 1))
-count_word bs k n f e =
-    let m : word_at bs (8 * k) % 18446744073709551616 ≡ word_at bs (8 * k) = omega (arith, word_lt bs (8 * k) f) in
-    let h : count_for (present bs) (8 * (8 * k)) 64 ≡ ones (word_at bs (8 * k)) =
-    count-shown (present bs) (8 * (8 * k)) 64 (word_at bs (8 * k)) 64 (word-shows bs (8 * k) f) (omega arith) ∙ ap ones m in
-    let g : 64 * (k + 1) ≡ 64 * k + 64 = omega arith in
-    let z : 0 + 64 * k ≡ 8 * (8 * k) = omega arith in
-    rw (g, count_cut (present bs) (64 * k) 0 64, z) (omega arith)
+-- the k-th of the chunks of eight bytes,
+chunk-at : (bs : List ℕ) (n k : ℕ) (d : List ℕ) → k < n → get_or (first_chunks 8 n bs) k d ≡ take 8 (drop (8 * k) bs)
+chunk-at bs zero k d l = absurd (omega arith)
+chunk-at bs (suc n) zero d l = refl
+chunk-at bs (suc n) (suc k) d l =
+    let e : 8 + 8 * k ≡ 8 * suc k = omega arith in
+    chunk-at (drop 8 bs) n k d (omega arith) ∙ ap (take 8) (drop-drop (8 * k) 8 bs ∙ ap (λ i. drop i bs) e)
 
--- `(1 << (n & 63)) - 1` leaves the records below n
-pub mask_is : (n : ℕ) → 1 * 2 ^ bit_and n 63 % 18446744073709551616 ≡ 2 ^ (n % 64)
-mask_is n =
-    let l : n % 64 < 64 = omega arith in
-    let h : 2 ^ (n % 64) < 18446744073709551616 = pow-lt l in
-    rw (and_mask n 6) (omega arith)
+-- which is the word at its place
+chunk-word : (bs : List ℕ) (n k : ℕ) (d : List ℕ) → k < n → from_le_bytes w64 (get_or (first_chunks 8 n bs) k d) ≡ word_at bs (8 * k)
+chunk-word bs n k d l =
+    let at : (i : ℕ) → i < 8 → get_or (take 8 (drop (8 * k) bs)) i 0 ≡ get_or bs (8 * k + i) 0 = λ i m. get_or-take 8 (drop (8 * k) bs) i 0 m ∙ get_or-drop (8 * k) bs i 0 in
+    let none : 8 * k + 0 ≡ 8 * k = omega arith in
+    rw (chunk-at bs n k d l, at 0 (lit< tt), at 1 (lit< tt), at 2 (lit< tt), at 3 (lit< tt), at 4 (lit< tt), at 5 (lit< tt), at 6 (lit< tt), at 7 (lit< tt), none) refl
 
--- what a mask leaves has at most as many ones as it has digits
-pub mask-ones : (x n : ℕ) → ones (bit_and x (1 * 2 ^ bit_and n 63 % 18446744073709551616 - 1)) ≤ n % 64
-mask-ones x n = rw (mask_is n, and_mask x (n % 64)) (ones-le (n % 64) (x % 2 ^ (n % 64)) (mod-lt x (pow_pos (n % 64))))
+-- one of the first m chunks more
+pub count_chunk : (bs : List ℕ) (m k n r : ℕ) (es : List (List ℕ)) (d : List ℕ) → ((i : ℕ) → byte_at bs i < 256) → es ≡ first_chunks 8 (length bs / 8) bs → length es ≡ length bs / 8
+    → k < length (take m es) → r ≡ from_le_bytes w64 (get_or (take m es) k d) → n ≡ count_for (present bs) 0 (64 * k) → n + ones r ≡ count_for (present bs) 0 (64 * (k + 1))
+count_chunk bs m k n r es d f is long l e h =
+    let word : r ≡ word_at bs (8 * k) =
+    e ∙ ap (from_le_bytes w64) (get_or-take m es k d (omega (arith, length-take m es)) ∙ ap (λ (x : List (List ℕ)). get_or x k d) is)
+    ∙ chunk-word bs (length bs / 8) k d (omega (arith, long, length-take m es)) in
+    let whole : word_at bs (8 * k) % 18446744073709551616 ≡ r = omega (arith, word_lt bs (8 * k) f) in
+    let at : 64 * k ≡ 8 * (8 * k) = omega arith in
+    let next : 8 * (8 * k) + 64 ≡ 64 * (k + 1) = omega arith in
+    rw (whole, next) at (count-more bs (8 * k) n 64 f (omega arith) (rw at at h))
+
+-- the mask `(1 << (n % 64)) - 1` leaves the records below n
+pub masked : (x n : ℕ) → bit_and x (1 * 2 ^ (n % 64) % 18446744073709551616 - 1) ≡ x % 2 ^ (n % 64)
+masked x n = rw (one_shl (n % 64) 64 (omega arith)) (and_mask x (n % 64))
 
 pub count-rest : (bs : List ℕ) (n whole : ℕ) → ((i : ℕ) → byte_at bs i < 256) → whole ≡ count_for (present bs) 0 (64 * (n / 64))
-    → whole + ones (bit_and (word_at bs (8 * (n / 64))) (1 * 2 ^ bit_and n 63 % 18446744073709551616 - 1)) ≡ count_for (present bs) 0 n
+    → whole + ones (word_at bs (8 * (n / 64)) % 2 ^ (n % 64)) ≡ count_for (present bs) 0 n
 count-rest bs n whole f e =
-    let h : count_for (present bs) (8 * (8 * (n / 64))) (n % 64) ≡ ones (word_at bs (8 * (n / 64)) % 2 ^ (n % 64)) =
-    count-shown (present bs) (8 * (8 * (n / 64))) 64 (word_at bs (8 * (n / 64))) (n % 64) (word-shows bs (8 * (n / 64)) f) (omega arith) in
-    let z : 0 + 64 * (n / 64) ≡ 8 * (8 * (n / 64)) = omega arith in
-    let g : 64 * (n / 64) + n % 64 ≡ n = omega arith in
-    let s : count_for (present bs) 0 n ≡ count_for (present bs) 0 (64 * (n / 64)) + count_for (present bs) (8 * (8 * (n / 64))) (n % 64) =
-    ap (count_for (present bs) 0) (sym g) ∙ count_cut (present bs) (64 * (n / 64)) 0 (n % 64) ∙ ap (λ (y : ℕ). count_for (present bs) 0 (64 * (n / 64)) + count_for (present bs) y (n % 64)) z in
-    rw (mask_is n, and_mask (word_at bs (8 * (n / 64))) (n % 64)) (omega arith)
+    let at : 64 * (n / 64) ≡ 8 * (8 * (n / 64)) = omega arith in
+    let all : 8 * (8 * (n / 64)) + n % 64 ≡ n = omega arith in
+    rw all at (count-more bs (8 * (n / 64)) whole (n % 64) f (omega arith) (rw at at e))
 
 -- ---- past the last byte
 
-pub get_d_past : (bs : List ℕ) (j : ℕ) → length bs ≤ j → get_or bs j 0 ≡ 0
-get_d_past [] j l = refl
-get_d_past (b ∷ bs) zero l = absurd (omega arith)
-get_d_past (b ∷ bs) (suc j) l = get_d_past bs j (omega arith)
-
-pub present-past : (bs : List ℕ) (i : ℕ) → 8 * length bs ≤ i → present bs i ≡ false
+present-past : (bs : List ℕ) (i : ℕ) → 8 * length bs ≤ i → present bs i ≡ false
 unfolding present
-present-past bs i l = ap (λ (x : ℕ). is_set x (i % 8)) (get_d_past bs (i / 8) (omega arith)) ∙ set-off 0 (i % 8) (digit-past 0 0 (i % 8) (omega arith) (omega arith))
-
-count_none : (p : ℕ → Bool) (n a : ℕ) → ((k : ℕ) → a ≤ k → p k ≡ false) → count_for p a n ≡ 0
-unfolding count_for
-count_none p zero a f = refl
-count_none p (suc n) a f = rw (f a (omega arith)) (omega (arith, count_none p n (suc a) (λ k l. f k (omega arith))))
+present-past bs i l = rw (get_or_past bs (i / 8) 0 (omega arith)) (set-off 0 (i % 8) (bit_at-zero (i % 8)))
 
 pub count_past : (bs : List ℕ) (n m : ℕ) → m ≡ min n (8 * length bs) → count_for (present bs) 0 m ≡ count_for (present bs) 0 n
 count_past bs n m e =
@@ -137,5 +139,6 @@ count_past bs n m e =
     (λ (l : n < 8 * length bs). let s : m ≡ n = omega arith in ap (count_for (present bs) 0) s)
     (λ (l : 8 * length bs ≤ n).
     let s : m + (n - m) ≡ n = omega arith in
-    sym (ap (count_for (present bs) 0) (sym s) ∙ count_cut (present bs) m 0 (n - m) ∙ ap (λ (x : ℕ). count_for (present bs) 0 m + x) (count_none (present bs) (n - m) (0 + m) (λ k u. present-past bs k (omega arith))) ∙ omega arith))
+    let past : count_for (present bs) (0 + m) (n - m) ≡ 0 = count_none (present bs) (n - m) (0 + m) (λ k u. present-past bs k (omega arith)) in
+    sym (ap (count_for (present bs) 0) (sym s) ∙ count_cut (present bs) m 0 (n - m) ∙ omega arith))
     (lt-or-ge n (8 * length bs))

@@ -1,97 +1,40 @@
 // Presence bitmaps, read: whether a record is present, how many are, where the next one is. Every call takes any bytes and any numbers.
 #![tactic(auto)]
 
-ghost use Rattle.std.specs.Prelude.{◌≡◌, not, ◌+◌, ◌*◌, ◌<◌, ◌≤◌, min, length, get_or};
+ghost use Rattle.std.specs.Prelude.{◌≡◌, not, ◌+◌, ◌*◌, ◌<◌, ◌≤◌, min, length};
 ghost use Rattle.ranges.specs.Ranges.{first_from};
 ghost use Rattle.bits.specs.Bitmap.{present, count_for};
 ghost use Rattle.bits.specs.Word.{word_at, sought_at, sought, window_at};
 
-// Byte j, or 0 past the last.
-fn byte_at(bytes: &[u8], j: usize) -> u64
-    ensures { (result ≡ get_or bytes.now j 0) × (result < 256) }
-{
-    if j < bytes.len() { bytes[j] as u64 } else { 0 }
-}
+use std::array;
 
-fn wide(x: u8) -> u64
-    ensures { (result ≡ x) × (result < 256) }
-{
-    x as u64
-}
-
-// The eight bytes from j on, lowest first. The compiler makes one load of it.
-fn full_word(bytes: &[u8], j: usize) -> u64
-    requires { j + 8 ≤ length bytes.now }
-    ensures { result ≡ word_at bytes.now j }
-{
-    wide(bytes[j])
-        + wide(bytes[j + 1]) * 256
-        + wide(bytes[j + 2]) * 65536
-        + wide(bytes[j + 3]) * 16777216
-        + wide(bytes[j + 4]) * 4294967296
-        + wide(bytes[j + 5]) * 1099511627776
-        + wide(bytes[j + 6]) * 281474976710656
-        + wide(bytes[j + 7]) * 72057594037927936
-}
-
-// The same near the end of the bytes, and past it.
-fn last_word(bytes: &[u8], j: usize) -> u64
-    requires { j < 4611686018427387904 }
-    ensures { result ≡ word_at bytes.now j }
-{
-    byte_at(bytes, j)
-        + byte_at(bytes, j + 1) * 256
-        + byte_at(bytes, j + 2) * 65536
-        + byte_at(bytes, j + 3) * 16777216
-        + byte_at(bytes, j + 4) * 4294967296
-        + byte_at(bytes, j + 5) * 1099511627776
-        + byte_at(bytes, j + 6) * 281474976710656
-        + byte_at(bytes, j + 7) * 72057594037927936
-}
-
+// The eight bytes from j on as one number, lowest first; a byte that is not there is 0. Where all eight are there, the compiler makes
+// one load of them.
 fn word(bytes: &[u8], j: usize) -> u64
     requires { j < 4611686018427387904 }
     ensures { result ≡ word_at bytes.now j }
 {
     if j + 8 <= bytes.len() {
-        return full_word(bytes, j);
+        u64::from_le_bytes(array::from_fn(|k| bytes[j + k]))
+    } else {
+        u64::from_le_bytes(array::from_fn(|k| bytes.get(j + k).copied().unwrap_or(0)))
     }
-    last_word(bytes, j)
 }
 
 // Whether record i is present.
 pub fn is_present(bytes: &[u8], i: usize) -> bool
     ensures { result ≡ present bytes.now i }
 {
-    let byte = byte_at(bytes, i >> 3);
-    (byte >> (i & 7)) & 1 == 1
-}
-
-// How many of the records below 64 · words are present.
-fn count_words(bytes: &[u8], words: usize) -> usize
-    requires words_in_bounds { 8 * words ≤ length bytes.now }
-    requires words_bound { words < 288230376151711744 }
-    ensures value { result ≡ count_for (present bytes.now) 0 (64 * words) }
-    ensures upper_bound { result ≤ 64 * words }
-{
-    let mut ones: usize = 0;
-    let mut k = 0;
-    while k < words {
-        ones += u64::count_ones(full_word(bytes, 8 * k)) as usize;
-        k += 1;
-    }
-    ones
+    bytes
+        .get(i / 8)
+        .is_some_and(|byte| byte >> (i % 8) & 1 == 1)
 }
 
 // How many records there are below count, in the bytes.
 fn reach(bytes: &[u8], count: usize) -> usize
     ensures { result ≡ min count (8 * length bytes.now) }
 {
-    if count >> 3 < bytes.len() {
-        count
-    } else {
-        8 * bytes.len()
-    }
+    count.min(bytes.len().saturating_mul(8))
 }
 
 // How many of the first count records are present.
@@ -99,14 +42,17 @@ pub fn count_present(bytes: &[u8], count: usize) -> usize
     ensures { result ≡ count_for (present bytes.now) 0 count }
 {
     let there = reach(bytes, count);
-    let words = there >> 6;
-    let whole = count_words(bytes, words);
-    let rest = there & 63;
-    let mask = (1u64 << rest) - 1;
-    whole + (u64::count_ones(word(bytes, 8 * words) & mask) as usize)
+    let (eights, _) = bytes.as_chunks::<8>();
+    let mut ones = 0;
+    for eight in &eights[..there / 64] {
+        ones += u64::from_le_bytes(*eight).count_ones() as usize;
+    }
+    let mask = (1u64 << (there % 64)) - 1;
+    ones + (word(bytes, 8 * (there / 64)) & mask).count_ones() as usize
 }
 
 // The record that lies so many after another, but none past count.
+// Kept: by `from.saturating_add(by).min(count)` a walk over present records was a tenth slower, by `from + by.min(count - from)` a twentieth.
 fn near(from: usize, by: usize, count: usize) -> usize
     requires { from ≤ count }
     ensures { result ≡ min (from + by) count }
@@ -114,46 +60,51 @@ fn near(from: usize, by: usize, count: usize) -> usize
     if by < count - from { from + by } else { count }
 }
 
-// The eight bytes from j on, with a 1 for each record that is looked for.
+// The eight bytes from j on, with a 1 for each record that is looked for: each whose presence is `here`.
+// Kept: `here` is a truth value, in the definitions too; an enum of present and absent would be turned into it by each clause.
 fn look(bytes: &[u8], j: usize, here: bool) -> u64
     requires { j < 4611686018427387904 }
     ensures { result ≡ sought_at here bytes.now j }
 {
     let found = word(bytes, j);
-    if here { found } else { u64::MAX - found }
+    if here { found } else { !found }
 }
 
 // The records from from on, at least 57 of them, with a 1 for each that is present, or for each that is absent; 0 past them.
+// Kept: `here`, as in `look`.
 pub fn window(bytes: &[u8], from: usize, here: bool) -> u64
     ensures { result ≡ window_at here bytes.now from }
 {
-    look(bytes, from >> 3, here) >> (from & 7)
+    look(bytes, from / 8, here) >> (from % 8)
 }
 
 // The first record from from on, below count, that is looked for; eight bytes a turn.
+// Kept: `here`, as in `look`.
 fn next_sought(bytes: &[u8], from: usize, count: usize, here: bool) -> usize
     ensures { result ≡ first_from (sought here bytes.now) from count }
 {
     if count <= from {
         return from;
     }
-    let at = from >> 3;
-    let rest = look(bytes, at, here) >> (from & 7);
+    let rest = window(bytes, from, here);
     if rest != 0 {
-        return near(from, u64::trailing_zeros(rest) as usize, count);
+        return near(from, rest.trailing_zeros() as usize, count);
     }
-    let mut j = at + 8;
-    while j <= (count - 1) >> 3 {
+    let at = from / 8;
+    let last = (count - 1) / 8;
+    // Kept: no `1..=(last - at) / 8`, by which a walk over empty bytes took half as long again.
+    for k in 1..(last - at) / 8 + 1 {
+        let j = at + 8 * k;
         let next = look(bytes, j, here);
         if next != 0 {
-            return near(8 * j, u64::trailing_zeros(next) as usize, count);
+            return near(8 * j, next.trailing_zeros() as usize, count);
         }
-        j += 8;
     }
     count
 }
 
 // The first record from from on, below count, that is present; count where there is none.
+// Kept: two names for two questions; the one function of both is `next_sought`.
 pub fn next_present(bytes: &[u8], from: usize, count: usize) -> usize
     ensures { result ≡ first_from (present bytes.now) from count }
 {
@@ -161,6 +112,7 @@ pub fn next_present(bytes: &[u8], from: usize, count: usize) -> usize
 }
 
 // The first record from from on, below count, that is absent; count where there is none.
+// Kept: as next_present.
 pub fn next_absent(bytes: &[u8], from: usize, count: usize) -> usize
     ensures { result ≡ first_from (λ i. not (present bytes.now i)) from count }
 {
