@@ -1,12 +1,19 @@
 // Presence bitmaps, read: whether a record is present, how many are, where the next one is. Every call takes any bytes and any numbers.
 #![tactic(auto)]
 
-ghost use Rattle.std.specs.Prelude.{◌≡◌, not, ◌+◌, ◌*◌, ◌<◌, ◌≤◌, min, length};
+ghost use Rattle.std.specs.Prelude.{◌≡◌, not, ◌+◌, ◌*◌, ◌<◌, ◌≤◌, min, length, slice_index};
 ghost use Rattle.ranges.specs.Ranges.{first_from};
 ghost use Rattle.bits.specs.Bitmap.{present, count_for};
 ghost use Rattle.bits.specs.Word.{word_at, sought_at, sought, window_at};
 
 use std::array;
+
+// Byte j, or 0 past the last.
+fn byte_at(bytes: &[u8], j: usize) -> u8
+    ensures { result ≡ slice_index bytes.now j }
+{
+    bytes.get(j).copied().unwrap_or(0)
+}
 
 // The eight bytes from j on as one number, lowest first; a byte that is not there is 0. Where all eight are there, the compiler makes
 // one load of them.
@@ -17,7 +24,7 @@ fn word(bytes: &[u8], j: usize) -> u64
     if j + 8 <= bytes.len() {
         u64::from_le_bytes(array::from_fn(|k| bytes[j + k]))
     } else {
-        u64::from_le_bytes(array::from_fn(|k| bytes.get(j + k).copied().unwrap_or(0)))
+        u64::from_le_bytes(array::from_fn(|k| byte_at(bytes, j + k)))
     }
 }
 
@@ -25,9 +32,7 @@ fn word(bytes: &[u8], j: usize) -> u64
 pub fn is_present(bytes: &[u8], i: usize) -> bool
     ensures { result ≡ present bytes.now i }
 {
-    bytes
-        .get(i / 8)
-        .is_some_and(|byte| byte >> (i % 8) & 1 == 1)
+    byte_at(bytes, i / 8) >> (i % 8) & 1 == 1
 }
 
 // How many records there are below count, in the bytes.
