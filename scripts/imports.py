@@ -10,7 +10,7 @@ ROOT = pathlib.Path(__file__).resolve().parent.parent
 GROUP = re.compile(r'^((?:ghost )?use [^\s{};]+?(?:\.|::)\{)([^{}]*)(\};?)$', re.M)
 WHOLE = re.compile(r'^((?:ghost )?use )(\S+?)(?: as (\S+?))?(;?)$', re.M)
 PUBLIC = re.compile(r'^pub use [^\n{]*(?:\{[^{}]*\})?;?$', re.M)
-PART = '[^\\s(){}\\[\\],;.λ&*!:]'
+PART = '[^\\s(){}\\[\\],;.λ&*!:<>?|]'
 TRAITS = {'Read', 'Write', 'BufRead', 'Seek', 'Env', 'Debug', 'Display'}
 
 
