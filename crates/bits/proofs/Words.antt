@@ -120,12 +120,19 @@ count_chunk bs m k n r es d f is long l e h =
 pub masked : (x n : ℕ) → bit_and x (1 * 2 ^ (n % 64) % 18446744073709551616 - 1) ≡ x % 2 ^ (n % 64)
 masked x n = rw (one_shl (n % 64) 64 (omega arith)) (and_mask x (n % 64))
 
-pub count-rest : (bs : List ℕ) (n whole : ℕ) → ((i : ℕ) → byte_at bs i < 256) → whole ≡ count_for (present bs) 0 (64 * (n / 64))
+pub count-last : (bs : List ℕ) (n whole : ℕ) → ((i : ℕ) → byte_at bs i < 256) → whole ≡ count_for (present bs) 0 (64 * (n / 64))
     → whole + ones (word_at bs (8 * (n / 64)) % 2 ^ (n % 64)) ≡ count_for (present bs) 0 n
-count-rest bs n whole f e =
+count-last bs n whole f e =
     let at : 64 * (n / 64) ≡ 8 * (8 * (n / 64)) = omega arith in
     let all : 8 * (8 * (n / 64)) + n % 64 ≡ n = omega arith in
     rw all at (count-more bs (8 * (n / 64)) whole (n % 64) f (omega arith) (rw at at e))
+
+-- the same, where a mask of the low bits of n takes off what is past it
+pub count-rest : (bs : List ℕ) (n whole : ℕ) → ((i : ℕ) → byte_at bs i < 256) → whole ≡ count_for (present bs) 0 (64 * (n / 64))
+    → whole + ones (bit_and (word_at bs (8 * (n / 64))) (1 * 2 ^ bit_and n 63 % 18446744073709551616 - 1)) ≡ count_for (present bs) 0 n
+count-rest bs n whole f e =
+    let low : bit_and n 63 ≡ n % 64 = and_mask n 6 in
+    rw (low, masked (word_at bs (8 * (n / 64))) n) (count-last bs n whole f e)
 
 -- ---- past the last byte
 
