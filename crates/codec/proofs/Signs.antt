@@ -1,16 +1,29 @@
 -- Two's complement as the machine has it is that of specs/, over the width. Assumes nothing.
-use Prim.Native.Nat.{ℕ, ◌*◌, ◌^◌}
-use mathlib.Core.Path.{◌≡◌, refl, ap, ◌∙◌}
+use Prim.Native.Nat.{ℕ, ◌-◌, ◌*◌, ◌^◌}
+use mathlib.Core.Path.{◌≡◌, refl, sym, ap, ◌∙◌}
+use mathlib.Core.Bool.{true, false}
 use native.Mathlib.Omega.{arith}
 use borrow.Author.Tests.{lt-ltb, le-ltb, ltb-true, ltb-false}
 use lib.Dec.{ltb}
 use lib.IntN.{ℤ, pos, negsuc}
+use lib.Signed.{mag, lt_z}
 use mir.Syntax.{Width}
 use mir.Val.{SFits, to_z, of_z, bits, hbits}
 use mir.ValLaws.{pow-bits}
 use mir.Facts.{to_z-of_z}
 use Rattle.ranges.proofs.Bools.{either}
+use Rattle.keys.proofs.Keys.{is-high}
+use Rattle.keys.proofs.Bits.{sign, not_low}
 use Rattle.codec.specs.Bytes.{to_signed, of_signed}
+
+module _ (w : Width) (v : ℤ) (f : SFits w v) where
+  -- a number below zero: its bits, flipped,
+  pub flipped : lt_z (to_z w (of_z w v)) (pos 0) ≡ true → to_z w ((2 ^ bits w - 1) - of_z w v) ≡ pos (mag v)
+  flipped t = not_low w v f (sym (sign f) ∙ t)
+
+  -- and one that is not: its bits
+  pub kept : lt_z (to_z w (of_z w v)) (pos 0) ≡ false → to_z w (of_z w v) ≡ pos (mag v)
+  kept t = to_z-of_z f ∙ is-high v (sym (sign f) ∙ t)
 
 module _ (w : Width) (k : ℕ) (e : 256 ^ k ≡ 2 ^ bits w) where
   -- the signed number of the bits x,
