@@ -1,15 +1,16 @@
 -- The digits of a number as tests, and counts of a test. Assumes nothing.
-use Prim.Native.Nat.{ℕ, zero, suc, ◌+◌, ◌-◌, ◌/◌, ◌%◌, ◌^◌, ◌≤◌, ◌<◌}
+use Prim.Native.Nat.{ℕ, zero, suc, ◌+◌, ◌-◌, ◌*◌, ◌/◌, ◌%◌, ◌^◌, ◌≤◌, ◌<◌}
 use mathlib.Core.Path.{◌≡◌, refl, sym, ap, ap₂, ◌∙◌}
 use mathlib.Core.Bool.{Bool, true, false, cond, not}
 use native.Mathlib.Omega.{arith}
+use native.Mathlib.Nat.{mod-lt, pow-suc}
 use native.Mathlib.Numerals.{add-one}
-use lib.Dec.{eqb}
-use lib.Pow.{field, mod-mod-pow}
-use lib.Count.{ones, ones_step}
-use mir.Syntax.{w64}
-use Rattle.std.proofs.lemmas.Nat.{shr-shr}
-use Rattle.std.proofs.lemmas.Nat.Bits.{bit_at-lt, bit_at-suc, bit_at_not}
+use lib.Bits.{bit_and, and_mask}
+use lib.Count.{ones, ones_step, count_trailing_zeros, under}
+use lib.Dec.{eqb, lit<}
+use lib.Pow.{field, mod-mod-pow, pow_pos}
+use Rattle.std.proofs.lemmas.Nat.{one_shl, shr-shr}
+use Rattle.std.proofs.lemmas.Nat.Bits.{bit_at-lt, bit_at-suc}
 use Rattle.bits.specs.Bitmap.{digit, is_set, count_for}
 
 -- ---- one digit
@@ -42,15 +43,46 @@ set_next n k = set_same n (n / 2) (suc k) k (bit_at-suc n k)
 pub set_shr : (n k m : ℕ) → is_set n (k + m) ≡ is_set (n / 2 ^ k) m
 set_shr n k m = set_same n (n / 2 ^ k) (k + m) m (ap (λ (x : ℕ). x % 2) (sym (shr-shr n k m)))
 
--- the digits of `!x` are the opposite
-pub set-not : (x k : ℕ) → x < 2 ^ 64 → k < 64 → is_set (18446744073709551615 - x) k ≡ not (is_set x k)
-unfolding is_set
-set-not x k l m = ap (λ (d : ℕ). eqb d 1) (bit_at_not w64 x k l m) ∙ by (digit x k) (bit_at-lt x k)
+-- the digits of what is left of all ones are the opposite, over any number w of them
+pub set-not : (w x k : ℕ) → x < 2 ^ w → k < w → is_set (2 ^ w - 1 - x) k ≡ not (is_set x k)
+set-not zero x k l m = absurd (omega arith)
+set-not (suc w) x zero l m = go (x % 2) refl (mod-lt x (lit< {m = 0} {n = 2} tt))
   where
-    by : (d : ℕ) → d < 2 → eqb (1 - d) 1 ≡ not (eqb d 1)
-    by zero l = refl
-    by (suc zero) l = refl
-    by (suc (suc d)) l = absurd (omega arith)
+    go : (d : ℕ) → x % 2 ≡ d → d < 2 → is_set (2 ^ suc w - 1 - x) 0 ≡ not (is_set x 0)
+    go zero e h = set_on (2 ^ suc w - 1 - x) 0 (omega (arith, pow-suc 2 w, pow_pos w)) ∙ sym (ap not (set-off x 0 (omega arith)))
+    go (suc zero) e h = set-off (2 ^ suc w - 1 - x) 0 (omega (arith, pow-suc 2 w, pow_pos w)) ∙ sym (ap not (set_on x 0 (omega arith)))
+    go (suc (suc d)) e h = absurd (omega arith)
+set-not (suc w) x (suc k) l m =
+    let e : (2 ^ suc w - 1 - x) / 2 ≡ 2 ^ w - 1 - x / 2 = omega (arith, pow-suc 2 w, pow_pos w) in
+    set_next (2 ^ suc w - 1 - x) k ∙ ap (λ (y : ℕ). is_set y k) e ∙ set-not w (x / 2) k (omega (arith, pow-suc 2 w)) (omega arith) ∙ sym (ap not (set_next x k))
+
+-- the mask `(1 << (n % 64)) - 1` leaves the digits below n
+pub masked : (x n : ℕ) → bit_and x (1 * 2 ^ (n % 64) % 18446744073709551616 - 1) ≡ x % 2 ^ (n % 64)
+masked x n = rw (one_shl (n % 64) 64 (omega arith)) (and_mask x (n % 64))
+
+-- ---- the zeros below the lowest one, over any number k of digits
+
+-- each digit below is 0,
+pub trailing-off : (k n j : ℕ) → j < count_trailing_zeros k n → digit n j ≡ 0
+unfolding count_trailing_zeros
+trailing-off zero n j l = absurd (omega arith)
+trailing-off (suc k) n j l = go j (n % 2) refl l (λ i m. trailing-off k (n / 2) i m)
+  where
+    go : (i d : ℕ) → n % 2 ≡ d → i < under d (count_trailing_zeros k (n / 2)) → ((x : ℕ) → x < count_trailing_zeros k (n / 2) → digit (n / 2) x ≡ 0) → digit n i ≡ 0
+    go zero zero e m f = omega arith
+    go (suc i) zero e m f = bit_at-suc n i ∙ f i (omega arith)
+    go i (suc d) e m f = absurd (omega arith)
+
+-- and where there are fewer than all, the next one is 1
+pub trailing-on : (k n : ℕ) → count_trailing_zeros k n < k → digit n (count_trailing_zeros k n) ≡ 1
+unfolding count_trailing_zeros
+trailing-on zero n l = absurd (omega arith)
+trailing-on (suc k) n l = go (n % 2) refl l (trailing-on k (n / 2))
+  where
+    go : (d : ℕ) → n % 2 ≡ d → under d (count_trailing_zeros k (n / 2)) < suc k
+        → (count_trailing_zeros k (n / 2) < k → digit (n / 2) (count_trailing_zeros k (n / 2)) ≡ 1) → digit n (under d (count_trailing_zeros k (n / 2))) ≡ 1
+    go zero e m f = bit_at-suc n (count_trailing_zeros k (n / 2)) ∙ f (omega arith)
+    go (suc d) e m f = omega (arith, mod-lt n (lit< {m = 0} {n = 2} tt))
 
 -- ---- counts
 

@@ -13,7 +13,7 @@ use Rattle.bits.proofs.Digits.{digit-of, bit-le, set_next, set_on, set-off}
 use Rattle.bits.proofs.Words.{byte-shows}
 
 -- a number by its digits
-same_digits : (k x y : ℕ) → x < 2 ^ k → y < 2 ^ k → ((m : ℕ) → m < k → is_set x m ≡ is_set y m) → x ≡ y
+pub same_digits : (k x y : ℕ) → x < 2 ^ k → y < 2 ^ k → ((m : ℕ) → m < k → is_set x m ≡ is_set y m) → x ≡ y
 same_digits k x y l h f = same_from_bits_below k x y l h (λ m u. digit-of x m ∙ ap (λ (t : Bool). cond t 1 0) (f m u) ∙ sym (digit-of y m))
 
 -- ---- the byte that a test makes

@@ -15,12 +15,11 @@ use Rattle.std.specs.Simd.{first_chunks}
 use Rattle.std.specs.Int.{from_le_bytes}
 use Rattle.std.proofs.Common.{length-take}
 use Rattle.std.proofs.lemmas.List.{get_or_past}
-use Rattle.std.proofs.lemmas.Nat.{one_shl}
 use Rattle.std.proofs.lemmas.Nat.Bits.{bit_at-zero, bit_at_cat_low, bit_at_cat_high}
 use Rattle.ranges.proofs.Spans.{lt-or-ge}
 use Rattle.bits.specs.Bitmap.{is_set, present, count_for}
 use Rattle.bits.specs.Word.{byte_at, word_at, sought_at, sought}
-use Rattle.bits.proofs.Digits.{set_same, set-off, set-not, count_same, count_cut, count_none, count_ones}
+use Rattle.bits.proofs.Digits.{set_same, set-off, set-not, masked, count_same, count_cut, count_none, count_ones}
 
 -- the w lowest digits of x are what p says from base on
 abbrev pub Shows : (ℕ → Bool) → ℕ → ℕ → ℕ → Type 0
@@ -72,7 +71,7 @@ word_lt bs j f = omega (arith, f j, f (j + 1), f (j + 2), f (j + 3), f (j + 4), 
 -- what is looked for, in eight bytes
 pub sought-shows : (here : Bool) (bs : List ℕ) (j : ℕ) → ((k : ℕ) → byte_at bs k < 256) → Shows (sought here bs) (8 * j) 64 (sought_at here bs j)
 sought-shows true bs j f k l = word-shows bs j f k l
-sought-shows false bs j f k l = ap not (word-shows bs j f k l) ∙ sym (set-not (word_at bs j) k (word_lt bs j f) l)
+sought-shows false bs j f k l = ap not (word-shows bs j f k l) ∙ sym (set-not 64 (word_at bs j) k (word_lt bs j f) l)
 
 pub sought-lt : (here : Bool) (bs : List ℕ) (j : ℕ) → ((k : ℕ) → byte_at bs k < 256) → sought_at here bs j < 18446744073709551616
 sought-lt true bs j f = word_lt bs j f
@@ -80,14 +79,25 @@ sought-lt false bs j f = omega arith
 
 -- ---- counts
 
--- the ones of a word's r lowest digits are the next r records that are present
-count-more : (bs : List ℕ) (j n r : ℕ) → ((i : ℕ) → byte_at bs i < 256) → r ≤ 64 → n ≡ count_for (present bs) 0 (8 * j)
+-- the ones of a number are the records that it shows
+pub count-shown : (p : ℕ → Bool) (base w x r : ℕ) → Shows p base w x → r ≤ w → count_for p base r ≡ ones (x % 2 ^ r)
+count-shown p base w x r f l = count_same p (is_set x) r base 0 (λ k m. f k (omega arith) ∙ ap (is_set x) (omega arith)) ∙ count_ones r x
+
+-- those of a word's r lowest digits are the next r records that are present
+pub count-more : (bs : List ℕ) (j n r : ℕ) → ((i : ℕ) → byte_at bs i < 256) → r ≤ 64 → n ≡ count_for (present bs) 0 (8 * j)
     → n + ones (word_at bs j % 2 ^ r) ≡ count_for (present bs) 0 (8 * j + r)
 count-more bs j n r f l e =
-    let h : count_for (present bs) (8 * j) r ≡ ones (word_at bs j % 2 ^ r) =
-    count_same (present bs) (is_set (word_at bs j)) r (8 * j) 0 (λ k m. word-shows bs j f k (omega arith) ∙ ap (is_set (word_at bs j)) (omega arith)) ∙ count_ones r (word_at bs j) in
     let z : 0 + 8 * j ≡ 8 * j = omega arith in
-    rw (count_cut (present bs) (8 * j) 0 r, z) (omega arith)
+    rw (count_cut (present bs) (8 * j) 0 r, z) (omega (arith, count-shown (present bs) (8 * j) 64 (word_at bs j) r (word-shows bs j f) l))
+
+-- eight bytes more
+pub count_word : (bs : List ℕ) (k n : ℕ) → ((i : ℕ) → byte_at bs i < 256) → n ≡ count_for (present bs) 0 (64 * k)
+    → n + ones (word_at bs (8 * k)) ≡ count_for (present bs) 0 (64 * (k + 1))
+count_word bs k n f e =
+    let all : word_at bs (8 * k) % 18446744073709551616 ≡ word_at bs (8 * k) = omega (arith, word_lt bs (8 * k) f) in
+    let at : 64 * k ≡ 8 * (8 * k) = omega arith in
+    let next : 8 * (8 * k) + 64 ≡ 64 * (k + 1) = omega arith in
+    rw (all, next) at (count-more bs (8 * k) n 64 f (omega arith) (rw at at e))
 
 -- the k-th of the chunks of eight bytes,
 chunk-at : (bs : List ℕ) (n k : ℕ) (d : List ℕ) → k < n → get_or (first_chunks 8 n bs) k d ≡ take 8 (drop (8 * k) bs)
@@ -111,14 +121,7 @@ count_chunk bs m k n r es d f is long l e h =
     let word : r ≡ word_at bs (8 * k) =
     e ∙ ap (from_le_bytes w64) (get_or-take m es k d (omega (arith, length-take m es)) ∙ ap (λ (x : List (List ℕ)). get_or x k d) is)
     ∙ chunk-word bs (length bs / 8) k d (omega (arith, long, length-take m es)) in
-    let whole : word_at bs (8 * k) % 18446744073709551616 ≡ r = omega (arith, word_lt bs (8 * k) f) in
-    let at : 64 * k ≡ 8 * (8 * k) = omega arith in
-    let next : 8 * (8 * k) + 64 ≡ 64 * (k + 1) = omega arith in
-    rw (whole, next) at (count-more bs (8 * k) n 64 f (omega arith) (rw at at h))
-
--- the mask `(1 << (n % 64)) - 1` leaves the records below n
-pub masked : (x n : ℕ) → bit_and x (1 * 2 ^ (n % 64) % 18446744073709551616 - 1) ≡ x % 2 ^ (n % 64)
-masked x n = rw (one_shl (n % 64) 64 (omega arith)) (and_mask x (n % 64))
+    rw word (count_word bs k n f h)
 
 pub count-last : (bs : List ℕ) (n whole : ℕ) → ((i : ℕ) → byte_at bs i < 256) → whole ≡ count_for (present bs) 0 (64 * (n / 64))
     → whole + ones (word_at bs (8 * (n / 64)) % 2 ^ (n % 64)) ≡ count_for (present bs) 0 n
@@ -136,7 +139,7 @@ count-rest bs n whole f e =
 
 -- ---- past the last byte
 
-present-past : (bs : List ℕ) (i : ℕ) → 8 * length bs ≤ i → present bs i ≡ false
+pub present-past : (bs : List ℕ) (i : ℕ) → 8 * length bs ≤ i → present bs i ≡ false
 unfolding present
 present-past bs i l = rw (get_or_past bs (i / 8) 0 (omega arith)) (set-off 0 (i % 8) (bit_at-zero (i % 8)))
 

@@ -1,10 +1,10 @@
 -- `count_present` meets its contract: whole words, then what a mask leaves of the next. Assumes nothing.
-use Rattle.std.proofs.Common.{◌≡◌, ◌+◌, ◌*◌, ◌/◌, ◌%◌, ◌^◌, ◌≤◌, ◌∙◌, refl, ap, arith, length-take}
+use Rattle.std.proofs.Common.{◌≡◌, ◌*◌, ◌/◌, ◌%◌, ◌^◌, ◌≤◌, ◌∙◌, refl, arith, length-take}
 use Rattle.std.proofs.lemmas.Nat.{ones-le, mod_below, pow_pos}
-use lib.Count.{ones}
+use lib.Bits.{bit_and, and_mask}
 use Rattle.bits.specs.Bitmap.{present, count_for}
-use Rattle.bits.proofs.Digits.{count_le}
-use Rattle.bits.proofs.Words.{count_chunk, masked, count-last, count_past}
+use Rattle.bits.proofs.Digits.{count_le, masked}
+use Rattle.bits.proofs.Words.{count_chunk, count-rest, count_past}
 use Rattle.bits.proofs.count_present.Goals as goal
 
 pub loop-eight-init : goal.loop-eight-init
@@ -40,6 +40,7 @@ overflow_add-result c = record {
 
 pub returns : goal.returns
 returns c =
-    ap (λ x. c.loop-eight.ones + ones x) (masked c.word.result c.reach-there.result ∙ ap (λ x. x % 2 ^ (c.reach-there.result % 64)) c.word.ensures)
-    ∙ count-last c.args.bytes.now c.reach-there.result c.loop-eight.ones (λ k. (c.type_inv.bytes k).fits) (whole c)
+    let low : bit_and c.reach-there.result 63 ≡ c.reach-there.result % 64 = and_mask c.reach-there.result 6 in
+    rw c.word.ensures
+    (rw low at (count-rest c.args.bytes.now c.reach-there.result c.loop-eight.ones (λ k. (c.type_inv.bytes k).fits) (whole c)))
     ∙ count_past c.args.bytes.now c.args.count c.reach-there.result c.reach-there.ensures

@@ -1,5 +1,5 @@
 -- `next_sought` meets its contract: the window at the start, then eight bytes a turn. Assumes nothing.
-use Rattle.std.proofs.Common.{◌*◌, ◌+◌, ◌/◌, sym, ◌∙◌, arith}
+use Rattle.std.proofs.Common.{◌*◌, ◌+◌, ◌/◌, ◌<◌, sym, ◌∙◌, arith}
 use Rattle.ranges.proofs.Spans.{first-now}
 use Rattle.bits.specs.Word.{sought}
 use Rattle.bits.proofs.Next.{nowhere-more, none_first, ahead_none, ahead_first, ahead_word, ahead_window}
@@ -8,10 +8,13 @@ use Rattle.bits.proofs.next_sought.Goals as goal
 pub returns-then-count-from : goal.returns-then-count-from
 returns-then-count-from c = sym (first-now (sought c.args.here c.args.bytes.now) c.args.from c.args.count (λ l. absurd (omega arith)))
 
+some-rest : (c : goal.After-near) → 0 < c.window-rest.result
+some-rest c = omega (arith, c.if-rest-ne0.true)
+
 pub returns-then-rest-ne0 : goal.returns-then-rest-ne0
 returns-then-rest-ne0 c =
     let rest = ahead_window c.args.here c.args.bytes.now (λ k. (c.type_inv.bytes k).fits) c.args.from c.window-rest.result c.window-rest.ensures in
-    c.near.ensures ∙ ahead_first rest (omega (arith, c.if-rest-ne0.true)) c.args.from c.args.count (omega arith) (omega arith) (λ i l h. absurd (omega arith))
+    c.near.ensures ∙ ahead_first rest (some-rest c) c.args.from c.args.count (omega arith) (omega arith) (λ i l h. absurd (omega arith))
 
 pub loop-k-init : goal.loop-k-init
 loop-k-init c =
