@@ -10,7 +10,8 @@ ROOT = pathlib.Path(__file__).resolve().parent.parent
 GROUP = re.compile(r'^((?:ghost )?use [^\s{};]+?(?:\.|::)\{)([^{}]*)(\};?)$', re.M)
 WHOLE = re.compile(r'^((?:ghost )?use )(\S+?)(?: as (\S+?))?(;?)$', re.M)
 PUBLIC = re.compile(r'^pub use [^\n{]*(?:\{[^{}]*\})?;?$', re.M)
-PART = '[^\\s(){}\\[\\],;.λ&*!:<>?|]'
+# what a name goes on with: in antt a name may have < or ? in it, as `lit<` has
+PART = {'.rt': '[^\\s(){}\\[\\],;.λ&*!:<>?|]', '.antt': '[^\\s(){}\\[\\],;.λ&*!:]'}
 TRAITS = {'Read', 'Write', 'BufRead', 'Seek', 'Env', 'Debug', 'Display'}
 
 
@@ -20,11 +21,11 @@ def body(text, comment):
     return re.sub(rf'(?m)(^|[ \t]){comment}.*$', '', text)
 
 
-def used(name, text):
+def used(name, text, part):
     """Whether a name stands in the text by itself; of an operator, it or each of its parts."""
     if '◌' in name or name == '[]':
         return name in text or all(p in re.split(r'[\s(){}\[\],;]+', text) for p in name.split('◌') if p)
-    return re.search(rf'(?<!{PART}){re.escape(name)}(?!{PART})', text) is not None
+    return re.search(rf'(?<!{part}){re.escape(name)}(?!{part})', text) is not None
 
 
 def pruned(path):
@@ -34,7 +35,7 @@ def pruned(path):
 
     def stays(name):
         name = re.split(r'\s+as\s+', name)[-1].strip()
-        return name in TRAITS or used(name, rest)
+        return name in TRAITS or used(name, rest, PART[path.suffix])
 
     def group(found):
         items = [i.strip() for i in found[2].split(',') if i.strip()]
